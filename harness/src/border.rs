@@ -1,4 +1,4 @@
-//! The library's three entries: what a call lends, and the C functions that stand behind it.
+//! The library's four entries: what a call lends, and the C functions that stand behind it.
 use crate::case::Case;
 
 /// The lent index.

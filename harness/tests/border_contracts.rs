@@ -1,5 +1,5 @@
 //! The functions that C calls (crates/lot_search) state the contracts of those of crates/border, of
-//! which crates/border_demands has the theorems: parameters and clauses are the same text, and so
+//! which crates/demands_border has the theorems: parameters and clauses are the same text, and so
 //! are the definitions that they name.
 mod common;
 
@@ -8,6 +8,8 @@ use std::collections::BTreeMap;
 
 const FILES: [&str; 2] = ["src/lib.rt", "src/write_index.rt"];
 const ENTRIES: [&str; 4] = ["lot_page", "lot_pick", "lot_search", "lot_write_index"];
+/// What the clauses of each entry name, in the order of ENTRIES.
+const RECORDS: [&str; 4] = ["LotPages", "LotPicks", "LotSearches", "LotWritesIndex"];
 
 /// For each entry what stands between its name and its body.
 fn contracts(crate_name: &str, begin: &str) -> BTreeMap<String, String> {
@@ -39,10 +41,13 @@ fn exports_state_the_contracts_of_the_border() {
     let exported = contracts("lot_search", "#[unsafe(no_mangle)]\npub extern \"C\" fn ");
     assert_eq!(exported, contracts("border", "\npub fn "));
     assert!(exported.keys().eq(ENTRIES));
-    assert!(exported.values().all(|c| c.contains("ensures")));
     let of_border = definitions("border");
     let of_exports = definitions("lot_search");
-    assert!(of_exports.len() > 10);
+    for (contract, record) in exported.values().zip(RECORDS) {
+        let (_, clauses) = contract.split_once("ensures").expect("clauses");
+        assert!(clauses.contains(&format!("{{ {record} ")), "{record}");
+        assert!(of_exports.contains_key(record), "{record}");
+    }
     for (name, path) in of_exports {
         assert_eq!(of_border.get(&name), Some(&path), "{name}");
     }

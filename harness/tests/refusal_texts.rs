@@ -7,7 +7,7 @@ use std::collections::BTreeMap;
 /// For each number its sentence.
 type Texts = BTreeMap<u32, String>;
 
-const NUMBERS: std::ops::RangeInclusive<u32> = 1..=14;
+const NUMBERS: std::ops::RangeInclusive<u32> = 1..=16;
 
 /// No number has two texts.
 fn put(texts: &mut Texts, number: u32, text: &str) {

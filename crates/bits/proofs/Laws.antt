@@ -1,5 +1,6 @@
--- The bits of words that are combined, shifted, cut and joined, and of a word without its lowest set bit. Assumes nothing.
-use Rattle.std.proofs.Common.{◌≡◌, refl, sym, ap, ap₂, ◌∙◌, Bool, true, false, not, ◌&&◌, ◌||◌, ⊎_elim, ℕ, zero, suc, ◌+◌, ◌-◌, ◌*◌, ◌/◌, ◌%◌, ◌^◌, ◌≤◌, ◌<◌, min, max, eqb, ltb, bit_and, bit_or, bit_xor, w64, pow_pos, mod-lt, arith, eq-eqb, ne_eqb, lt-ltb, le-ltb}
+-- The bits of words that are combined, shifted, cut and joined, and of a word without its lowest set bit.
+-- Assumes nothing.
+use Rattle.std.proofs.Common.{◌≡◌, refl, sym, ap, ap₂, ◌∙◌, Bool, true, false, not, ◌&&◌, ◌||◌, ⊎_elim, ℕ, zero, suc, ◌+◌, ◌-◌, ◌*◌, ◌/◌, ◌%◌, ◌^◌, ◌≤◌, ◌<◌, min, max, eqb, ltb, bit_and, bit_or, bit_xor, w64, mod-lt, arith, eq-eqb, ne_eqb, lt-ltb, le-ltb}
 use mathlib.Core.Bool.{xor, and-true, and-false, false≢true}
 use native.Mathlib.Nat.{zero-min, min-zero, suc-min-suc, zero-max, max-zero, suc-max-suc}
 use lib.Bits.{and_step, and_self}
@@ -9,7 +10,7 @@ use mir.Val.{bits}
 use Rattle.std.specs.Int.{Width, bit_at, bit_not}
 use Rattle.std.proofs.lemmas.Bool.{cases_eq, cases_lt, and_left}
 use Rattle.std.proofs.lemmas.Nat.{one_shl}
-use Rattle.std.proofs.lemmas.Nat.Bits.{bit_at_lowest, bit_at-suc, bit_at-zero, bit_at-lt, bit_at_and, bit_at_or, bit_at_xor, bit_at_not, bit_at-pow_same, bit_at-pow_other, bit_at_ones, bit_at_ones_above, bit_at_cat_low, bit_at_cat_high, bit_at-trailing_zeros, same_from_bits_below}
+use Rattle.std.proofs.lemmas.Nat.Bits.{bit_at_lowest, bit_at-suc, bit_at-zero, bit_at-lt, bit_at_and, bit_at_or, bit_at_xor, bit_at_not, bit_at-pow_same, bit_at-pow_other, bit_at_ones, bit_at_ones_above, bit_at_cat_low, bit_at_cat_high, bit_at-trailing_zeros}
 use Rattle.bits.specs.Bit.{digit, bit, LowestBit}
 
 -- ---- a bit is std's digit `n / 2 ^ p % 2`, which has most of the laws
@@ -117,13 +118,10 @@ bit-high k p hi lo h g = bit-is p (hi * 2 ^ k + lo) ∙ ap digit (bit_at_cat_hig
 pub halves-joined : (w : ℕ) → w % 4294967296 + 4294967296 * (w / 4294967296) ≡ w
 halves-joined w = omega arith
 
--- a word without set bits is 0
+-- a digit that is not 1 is 0
 digit-false : (x : ℕ) → digit x ≡ false → x ≡ 0
 digit-false zero e = refl
 digit-false (suc x) e = absurd (false≢true (sym e))
-
-pub none-set : (k w : ℕ) → w < 2 ^ k → ((p : ℕ) → p < k → bit p w ≡ false) → w ≡ 0
-none-set k w h n = same_from_bits_below k w 0 h (pow_pos k) (λ p l. digit-false (bit_at w p) (sym (bit-is p w) ∙ n p l) ∙ sym (bit_at-zero p))
 
 -- ---- the lowest set bit
 digit-true : (x : ℕ) → x < 2 → digit x ≡ true → x ≡ 1

@@ -24,7 +24,9 @@ pub record LowestBit (w t : ℕ) : Type 0 where
 
 -- a step from the set bits of w: the lowest one's place, and the others are left in v; or none is set, nor left
 abbrev pub NextSet : ℕ → Option ℕ → ℕ → Type 0
-NextSet w r v = MatchOption r ((w ≡ 0) × (v ≡ 0)) (λ t. LowestBit w t × ((q : ℕ) → bit q v ≡ bit q w && not (eqb q t)) × (set_bits w ≡ t ∷ set_bits v))
+NextSet w r v =
+    MatchOption r ((w ≡ 0) × (v ≡ 0))
+    (λ t. LowestBit w t × ((q : ℕ) → bit q v ≡ bit q w && not (eqb q t)) × (set_bits w ≡ t ∷ set_bits v))
 
 -- how many words of 32 bits have so many
 abbrev pub bitmap_words : ℕ → ℕ

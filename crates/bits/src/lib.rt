@@ -80,7 +80,7 @@ pub fn rank(w: u64, p: u32) -> u32
     (w & ((1u64 << p) - 1)).count_ones()
 }
 
-// The bits below n alone.
+// A word whose n lowest bits are set.
 pub fn first_bits(n: u32) -> u64
     requires { n < 64 }
     ensures { (q : ℕ) → bit q result ≡ ltb q n }
@@ -89,7 +89,8 @@ pub fn first_bits(n: u32) -> u64
 }
 
 // A word and its two halves.
-// Kept: no plainer by From, which would want a struct of the halves: each of the three is one line, and its name says which half.
+// Kept: no plainer by From, which would want a struct of the halves:
+// each of the three is one line, and its name says which half.
 pub fn joined(low: u32, high: u32) -> u64
     ensures word { result ≡ low + 4294967296 * high }
     ensures low_bits { (q : ℕ) → q < 32 → bit q result ≡ bit q low }
@@ -117,7 +118,7 @@ pub fn is_set(w: u64, p: u32) -> bool
     (w >> p) % 2 == 1
 }
 
-// How many words of 32 bits have n bits.
+// How many 32-bit words hold n bits.
 pub fn bitmap_words(n: u32) -> u32
     ensures { result ≡ bitmap_words n }
 {

@@ -1,4 +1,4 @@
--- What the proofs of the border's entries use.
+-- The border's answers from those of the entries behind it, one law for each way through.
 pub mod Short
 pub mod Told
 pub mod WriteTold

@@ -1,19 +1,15 @@
-// The border: Search, Page, Pick and the token writer for callers in C and Rust. Each returns the refusal's number, or 0 and its numbers in `answer`.
+// The border: Search, Page, Pick and the token writer for callers in C and Rust. Each returns the refusal's number, or
+// 0 and its numbers in `answer`.
 #![tactic(auto)]
 
 pub mod write_index;
 
-ghost use Rattle.std.specs.Prelude.{◌≡◌, map, ◌≤◌, length, min};
-ghost use Rattle.std.specs.Float.{binary32};
-ghost use Rattle.std.specs.Float.Ieee.{to_bits};
-ghost use Rattle.meaning.specs.Query.{query_tree};
-ghost use Rattle.meaning.specs.FullList.{full_list};
-ghost use Rattle.meaning.specs.Hits.{hits as hits_of};
-ghost use Rattle.meaning.specs.Entries.{written, answered, Kept, page_of, picked_list};
+ghost use Rattle.std.specs.Prelude.{◌≡◌, ◌≤◌, length, min};
+ghost use Rattle.meaning.specs.Entries.{answered};
 ghost use Rattle.index.specs.Slices.{lent};
-ghost use Rattle.order_check.specs.Lends.{work};
+ghost use Rattle.check_order.specs.WorkOf.{work};
 ghost use Rattle.refusal.specs.Numbers.{number_of, refusal_of};
-ghost use Rattle.border.specs.Border.{border_search, border_page, border_pick, top_numbers, top_answer, page_numbers};
+ghost use Rattle.border.specs.Border.{top_answer, LotSearches, LotPages, LotPicks, LotKept};
 
 use collector::TopDocs;
 use index::lent::Lent;
@@ -58,23 +54,21 @@ pub fn lot_search(
     live: &[u64],
     columns: &[u32],
     values: &[u32],
-    q: &[u32],
+    query: &[u32],
     k: u32,
     t: u32,
     states: &mut [u32],
-    a: &mut [i32],
-    b: &mut [i32],
+    starts: &mut [i32],
+    other_starts: &mut [i32],
     ranges: &mut [u32],
     hits: &mut [i64],
     answer: &mut [u64],
 ) -> u32
-    ensures value { result ≡ border_search (lent max_doc fields.now leaves.now postings.now positions.now norms.now live.now columns.now values.now) q.now k (work (length states.old) (length a.old) (length b.old) (length ranges.old)) (length hits.old) (length answer.old) }
-    ensures hits_after { hits.new ≡ answered result (written (hits_of k (full_list (lent max_doc fields.now leaves.now postings.now positions.now norms.now live.now columns.now values.now) (query_tree q.now))) hits.old) (λ n. hits.old) }
-    ensures answer_after { answer.new ≡ answered result (written (top_numbers k t (full_list (lent max_doc fields.now leaves.now postings.now positions.now norms.now live.now columns.now values.now) (query_tree q.now))) answer.old) (λ n. answer.old) }
-    ensures kept { Kept result states.old states.new }
-    ensures kept_2 { Kept result a.old a.new }
-    ensures kept_3 { Kept result b.old b.new }
-    ensures kept_4 { Kept result ranges.old ranges.new }
+    ensures searches { LotSearches (lent max_doc fields.now leaves.now postings.now positions.now norms.now
+        live.now columns.now values.now) query.now k t (work (length states.old) (length starts.old)
+        (length other_starts.old) (length ranges.old)) hits.old hits.new answer.old answer.new result }
+    ensures kept { LotKept result states.old states.new starts.old starts.new
+        other_starts.old other_starts.new ranges.old ranges.new }
 {
     let lent = Lent {
         max_doc,
@@ -89,16 +83,16 @@ pub fn lot_search(
     };
     let mut buffers = Buffers {
         states,
-        starts: a,
-        other_starts: b,
+        starts,
+        other_starts,
         ranges,
     };
     if answer.len() < 3 {
         let work = buffers.lengths();
-        let refused = order_check::search_refusal(&lent, q, k, work, hits.len());
+        let refused = check_order::search_refusal(&lent, query, k, work, hits.len());
         return short_answer(&refused, Refusal::Buffers);
     }
-    let found = searcher::search::search(&lent, q, k, t, &mut buffers, hits);
+    let found = searcher::search::search(&lent, query, k, t, &mut buffers, hits);
     answer_top_docs(found, answer)
 }
 
@@ -113,24 +107,22 @@ pub fn lot_page(
     live: &[u64],
     columns: &[u32],
     values: &[u32],
-    q: &[u32],
+    query: &[u32],
     target: u32,
     states: &mut [u32],
-    a: &mut [i32],
-    b: &mut [i32],
+    starts: &mut [i32],
+    other_starts: &mut [i32],
     ranges: &mut [u32],
     documents: &mut [u32],
     scores: &mut [u32],
     answer: &mut [u64],
 ) -> u32
-    ensures value { result ≡ border_page (lent max_doc fields.now leaves.now postings.now positions.now norms.now live.now columns.now values.now) q.now target (work (length states.old) (length a.old) (length b.old) (length ranges.old)) (length documents.old) (length scores.old) (length answer.old) }
-    ensures documents_after { documents.new ≡ answered result (written (map (λ h. h.doc) (page_of (lent max_doc fields.now leaves.now postings.now positions.now norms.now live.now columns.now values.now) q.now target (length documents.old)).given) documents.old) (λ n. documents.old) }
-    ensures scores_after { scores.new ≡ answered result (written (map (λ h. to_bits binary32 h.score) (page_of (lent max_doc fields.now leaves.now postings.now positions.now norms.now live.now columns.now values.now) q.now target (length documents.old)).given) scores.old) (λ n. scores.old) }
-    ensures answer_after { answer.new ≡ answered result (written (page_numbers (page_of (lent max_doc fields.now leaves.now postings.now positions.now norms.now live.now columns.now values.now) q.now target (length documents.old))) answer.old) (λ n. answer.old) }
-    ensures kept { Kept result states.old states.new }
-    ensures kept_2 { Kept result a.old a.new }
-    ensures kept_3 { Kept result b.old b.new }
-    ensures kept_4 { Kept result ranges.old ranges.new }
+    ensures pages { LotPages (lent max_doc fields.now leaves.now postings.now positions.now norms.now
+        live.now columns.now values.now) query.now target (work (length states.old) (length starts.old)
+        (length other_starts.old) (length ranges.old)) documents.old documents.new scores.old scores.new
+        answer.old answer.new result }
+    ensures kept { LotKept result states.old states.new starts.old starts.new
+        other_starts.old other_starts.new ranges.old ranges.new }
 {
     let lent = Lent {
         max_doc,
@@ -145,15 +137,15 @@ pub fn lot_page(
     };
     let mut buffers = Buffers {
         states,
-        starts: a,
-        other_starts: b,
+        starts,
+        other_starts,
         ranges,
     };
     if answer.len() < 2 {
         let work = buffers.lengths();
-        let refused = order_check::page_refusal(
+        let refused = check_order::page_refusal(
             &lent,
-            q,
+            query,
             target,
             work,
             documents.len(),
@@ -161,7 +153,7 @@ pub fn lot_page(
         );
         return short_answer(&refused, Refusal::Buffers);
     }
-    match searcher::page::page(&lent, q, target, &mut buffers, documents, scores) {
+    match searcher::page::page(&lent, query, target, &mut buffers, documents, scores) {
         Err(refusal) => refusal.number(),
         Ok(listed) => {
             answer[0] = listed.given as u64;
@@ -180,14 +172,12 @@ pub fn lot_pick(
     hits: &mut [i64],
     answer: &mut [u64],
 ) -> u32
-    ensures value { result ≡ border_pick documents.now scores.now k (length hits.old) (length answer.old) }
-    ensures hits_after { hits.new ≡ answered result (written (hits_of k (picked_list documents.now scores.now)) hits.old) (λ n. hits.old) }
-    ensures answer_after { answer.new ≡ answered result (written (top_numbers k t (picked_list documents.now scores.now)) answer.old) (λ n. answer.old) }
+    ensures { LotPicks documents.now scores.now k t hits.old hits.new answer.old answer.new result }
 {
     if answer.len() < 3 {
-        let refused = pick_entry::pick_refusal(documents, scores, k, hits.len());
+        let refused = entry_pick::pick_refusal(documents, scores, k, hits.len());
         return short_answer(&refused, Refusal::Buffers);
     }
-    let found = pick_entry::pick(documents, scores, k, t, hits);
+    let found = entry_pick::pick(documents, scores, k, t, hits);
     answer_top_docs(found, answer)
 }

@@ -18,7 +18,8 @@ pub fn lot_write_index(
     runs: &mut [u32],
     answer: &mut [u64],
 ) -> u32
-    ensures { LotWritesIndex max_doc fields.now leaf_fields.now tokens.now norms.old postings.old positions.old runs.old answer.old norms.new postings.new positions.new runs.new answer.new result }
+    ensures { LotWritesIndex max_doc fields.now leaf_fields.now tokens.now norms.old postings.old
+        positions.old runs.old answer.old norms.new postings.new positions.new runs.new answer.new result }
 {
     let records = TokenRecords {
         max_doc,

@@ -14,21 +14,21 @@ use Rattle.meaning.specs.Live.{is_live}
 use Rattle.ieee754.specs.Nonneg.{AtMost}
 use Rattle.ieee754.proofs.Bounds.{zero-atmost}
 use Rattle.collector.specs.declared.TopScoreDocCollector.{TopScoreDocCollector}
-use Rattle.collector.specs.Collected.{Ready, Extended}
+use Rattle.collector.specs.Collected.{CollectorReady, Extended}
 use Rattle.index.specs.Accepted.{Accepted}
 use Rattle.index.specs.Slices.{live_only}
-use Rattle.weight.specs.ScorerTree.{nothing, term, phrase, range, everything, Scoring, constant, weighted, Scorer, leaf, boolean, matches, leaf_matches, leaf_score, scorer_score}
-use Rattle.weight.specs.Held.{LeafIs, Ok}
-use Rattle.scorer.specs.Calls.{Lent}
-use Rattle.leaf_score.specs.declared.ScoreNode.{ScoreNode}
+use Rattle.tree_weight.specs.ScorerTree.{nothing, term, phrase, range, everything, Scoring, constant, weighted, Scorer, leaf, boolean, matches, leaf_matches, leaf_score, scorer_score}
+use Rattle.tree_weight.specs.Held.{LeafIs, Ok}
+use Rattle.scorer.specs.Calls.{Lists}
+use Rattle.score_leaf.specs.declared.ScoreNode.{ScoreNode}
 use Rattle.std.specs.Prelude.{Option, Some, None}
 use Rattle.std.specs.Option.{unwrap_or}
-use Rattle.leaf_score.specs.Words.{ScoreNodeIs, constant_score}
-use Rattle.leaf_score.proofs.Constants.{constant-some, constant-none}
+use Rattle.score_leaf.specs.Words.{ScoreNodeIs, constant_score}
+use Rattle.score_leaf.proofs.Constants.{constant-some, constant-none}
 use Rattle.walk.specs.Walks.{live_match, live_scored, PageHeld}
-use Rattle.leaf_score.proofs.Leaves.{read, kind-read}
-use Rattle.leaf_score.proofs.Bounds.{zero-32}
-use Rattle.leaf_score.proofs.Weights.{float_back, float-number}
+use Rattle.score_leaf.proofs.Leaves.{read, kind-read}
+use Rattle.score_leaf.proofs.Bounds.{zero-32}
+use Rattle.score_leaf.proofs.Weights.{float_back, float-number}
 use Rattle.bulk_term.specs.Postings.{NodeScores}
 use Rattle.bulk_scorer.proofs.LiveMatches.{live_of, not_live, not-below, is-match}
 use Rattle.bulk_scorer.specs.Collects.{Continued, CollectPre}
@@ -68,15 +68,15 @@ module _ (documents : ℕ) (live : List ℕ) where
       pub live-are : ix.live ≡ live
       pub scores : NodeScores sc n
 
-    module _ (E : Lent) (norms : List ℕ) (table : List Float) (places depth : ℕ) (st : List ℕ) (N : ScoreNodeIs st n) (k : get_or st 0 0 ≡ 5) (same : E.documents ≡ documents) where
-      pub any-is : (ix : Index) (s : Scorer) (scores : ℕ) → PageHeld E norms live table ix places s depth scores st 0 → AnyIs ix s
+    module _ (E : Lists) (norms : List ℕ) (table : List Float) (places depth : ℕ) (states : List ℕ) (N : ScoreNodeIs states n) (k : get_or states 0 0 ≡ 5) (same : E.documents ≡ documents) where
+      pub any-is : (ix : Index) (s : Scorer) (scores : ℕ) → PageHeld E norms live table ix places s depth scores states 0 → AnyIs ix s
       unfolding Ok LeafIs
-      any-is ix (leaf nothing sc) m H = absurd (omega (arith, kind-read st H.ok.1 H.ok.0 H.ok.2, H.ok.4.0))
-      any-is ix (leaf (term l) sc) m H = absurd (omega (arith, kind-read st H.ok.1 H.ok.0 H.ok.2, H.ok.4.0.kind-is))
-      any-is ix (leaf (phrase f ts) sc) m H = absurd (omega (arith, kind-read st H.ok.1 H.ok.0 H.ok.2, H.ok.4.kind-is))
-      any-is ix (leaf (range r) sc) m H = absurd (omega (arith, kind-read st H.ok.1 H.ok.0 H.ok.2, H.ok.4.0.kind-is))
+      any-is ix (leaf nothing sc) m H = absurd (omega (arith, kind-read states H.ok.1 H.ok.0 H.ok.2, H.ok.4.0))
+      any-is ix (leaf (term l) sc) m H = absurd (omega (arith, kind-read states H.ok.1 H.ok.0 H.ok.2, H.ok.4.0.kind-is))
+      any-is ix (leaf (phrase f ts) sc) m H = absurd (omega (arith, kind-read states H.ok.1 H.ok.0 H.ok.2, H.ok.4.kind-is))
+      any-is ix (leaf (range r) sc) m H = absurd (omega (arith, kind-read states H.ok.1 H.ok.0 H.ok.2, H.ok.4.0.kind-is))
       any-is ix (leaf everything sc) m H =
-          let R = read st H.ok.1 H.ok.0 n H.ok.2 N in
+          let R = read states H.ok.1 H.ok.0 n H.ok.2 N in
           record {
             sc = sc;
             is = refl;
@@ -85,15 +85,15 @@ module _ (documents : ℕ) (live : List ℕ) where
             live-are = H.live-are;
             scores = node-scores sc H.ok.0 n R.constant-is R.weight_is H.ok.5;
           }
-      any-is ix (boolean c j need rs os ps) m H = let p = H.ok in absurd (omega (arith, kind-read st (p.1 ++ (p.2 ++ p.3)) p.0 p.4, p.7.kind-is))
+      any-is ix (boolean c j need rs os ps) m H = let p = H.ok in absurd (omega (arith, kind-read states (p.1 ++ (p.2 ++ p.3)) p.0 p.4, p.7.kind-is))
 
     -- what a call asks, and what is read of its words
     abbrev pub Asked : List ℕ → ℕ → TopScoreDocCollector → List ℤ → Type 0
-    Asked st doc_base c heap = (E : Lent) × (norms : List ℕ) × (table : List Float) × (places : ℕ) × (depth : ℕ) × (E.documents ≡ documents) × (get_or st 0 0 ≡ 5) × CollectPre E norms live table places st depth doc_base c heap
+    Asked states doc_base c heap = (E : Lists) × (norms : List ℕ) × (table : List Float) × (places : ℕ) × (depth : ℕ) × (E.documents ≡ documents) × (get_or states 0 0 ≡ 5) × CollectPre E norms live table places states depth doc_base c heap
 
-    module _ (st : List ℕ) (doc_base : ℕ) (c : TopScoreDocCollector) (heap : List ℤ) (q : Asked st doc_base c heap) where
-      pub asked-any : ScoreNodeIs st n → AnyIs q.7.2.0 q.7.2.1
-      asked-any N = any-is q.0 q.1 q.2 q.3 q.4 st N q.6 q.5 q.7.2.0 q.7.2.1 q.7.2.2 (root-page q.0 q.1 live q.2 q.7.2.0 q.3 q.7.2.1 q.4 q.7.2.2 st q.7.2.3)
+    module _ (states : List ℕ) (doc_base : ℕ) (c : TopScoreDocCollector) (heap : List ℤ) (q : Asked states doc_base c heap) where
+      pub asked-any : ScoreNodeIs states n → AnyIs q.7.2.0 q.7.2.1
+      asked-any N = any-is q.0 q.1 q.2 q.3 q.4 states N q.6 q.5 q.7.2.0 q.7.2.1 q.7.2.2 (root-page q.0 q.1 live q.2 q.7.2.0 q.3 q.7.2.1 q.4 q.7.2.2 states q.7.2.3)
 
   module _ (r : Float) where
     -- and r is the score of each document
@@ -115,7 +115,7 @@ module _ (documents : ℕ) (live : List ℕ) where
       any-start ix sc R = sofar-start ix (leaf everything sc) doc_base c₀ heap₀
 
       module _ (c : TopScoreDocCollector) (heap : List ℤ) (doc : ℕ) (I : AnysAt c heap doc) where
-        pub any-ready : (ix : Index) (sc : Scoring) → AnyRoot ix sc → Ready doc_base c₀ heap₀ → (to : ℕ) → doc_base + doc ≤ to → Ready to c heap
+        pub any-ready : (ix : Index) (sc : Scoring) → AnyRoot ix sc → CollectorReady doc_base c₀ heap₀ → (to : ℕ) → doc_base + doc ≤ to → CollectorReady to c heap
         any-ready ix sc R start to l = sofar-ready ix (leaf everything sc) doc_base c₀ heap₀ c heap doc (I ix sc R) start to l
 
         pub any-done : documents ≡ doc → (ix : Index) (s : Scorer) (sc : Scoring) → s ≡ leaf everything sc → AnyRoot ix sc → Continued doc_base documents (live_scored ix s) c₀ heap₀ c heap

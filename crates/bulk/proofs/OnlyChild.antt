@@ -13,21 +13,21 @@ use Rattle.meaning.specs.Lent.{Index}
 use Rattle.meaning.specs.Live.{is_live}
 use Rattle.ieee754.specs.Nonneg.{AtMost}
 use Rattle.index.specs.Accepted.{Accepted}
-use Rattle.weight.specs.ScorerTree.{Leaf, nothing, term, phrase, range, everything, Scoring, Joining, Scorer, leaf, boolean, Scorers, end, more, matches, all_match, any_matches, matching, scoring, joined_score, scorer_score, required_scores, optional_scores}
-use Rattle.weight.specs.State.{State, words_of, size_of, sizes_of}
-use Rattle.weight.specs.Held.{KeptIs}
-use Rattle.weight.specs.Sound.{Sound, Sounds, Tables, TablesOf, nodes, nodes_of}
-use Rattle.weight.proofs.Weights.{Weighted, WeightedAll}
-use Rattle.scorer.specs.Calls.{Lent}
-use Rattle.leaf_score.specs.Asked.{Scorable}
-use Rattle.leaf_score.proofs.Bounds.{scores-more}
+use Rattle.tree_weight.specs.ScorerTree.{Joining, Scorer, leaf, boolean, Scorers, end, more, matches, all_match, any_matches, matching, scoring, joined_score, scorer_score, required_scores, optional_scores}
+use Rattle.tree_weight.specs.State.{State, words_of, size_of, sizes_of}
+use Rattle.tree_weight.specs.Held.{KeptIs}
+use Rattle.tree_weight.specs.Sound.{Sound, Sounds, Tables, TablesOf, nodes, nodes_of}
+use Rattle.tree_weight.proofs.Weights.{Weighted, WeightedAll}
+use Rattle.scorer.specs.Calls.{Lists}
+use Rattle.score_leaf.specs.Asked.{Scorable}
+use Rattle.score_leaf.proofs.Bounds.{scores-more}
 use Rattle.score.specs.Asked.{JoinIs}
 use Rattle.score.proofs.Alone.{zero-plus, group-alone, joined-alone, none_left}
 use Rattle.score.proofs.Small.{score-small, score-fits, first_small, ok-weighted}
 use Rattle.scorer.proofs.Leads.{rest_part}
 use Rattle.walk.specs.Walks.{scored, live_scored}
 use Rattle.window_words.specs.Windowed.{nowhere, required_places, optional_places, optional_bound, Windowed}
-use Rattle.window_words.proofs.Laws.{windowed-less, windowed-long, windowed-kind, windowed-scores, windowed-ok, windowed-length, all-length, kind_of}
+use Rattle.window_words.proofs.Laws.{windowed-less, windowed-long, windowed-kind, windowed-scores, windowed-ok, windowed-length, all-length, leaf-no-boolean}
 use Rattle.window_words.proofs.Unasked.{optional-unasked}
 use Rattle.bulk_scorer.specs.Collects.{RootHeld}
 use Rattle.bulk_window.proofs.Lists.{map-same}
@@ -105,42 +105,34 @@ module _ (ix : Index) (j : Joining) (t : Scorer) where
 
 -- ---- the words behind a record
 abbrev pub behind : List ℕ → List ℕ
-behind st = take (length st - node_state_words) (drop node_state_words st)
+behind states = take (length states - node_state_words) (drop node_state_words states)
 
-pub behind-word : (st : List ℕ) → AloneWords st → (k : ℕ) → k < node_state_words → get_or (behind st) k 0 ≡ get_or st (node_state_words + k) 0
-behind-word st W k h = get_or-take (length st - node_state_words) (drop node_state_words st) k 0 (omega (arith, W.long)) ∙ get_or-drop node_state_words st k 0
+pub behind-word : (states : List ℕ) → AloneWords states → (k : ℕ) → k < node_state_words → get_or (behind states) k 0 ≡ get_or states (node_state_words + k) 0
+behind-word states W k h = get_or-take (length states - node_state_words) (drop node_state_words states) k 0 (omega (arith, W.long)) ∙ get_or-drop node_state_words states k 0
 
 cut : (y r : List ℕ) → length r ≡ 0 → y ++ r ≡ y
 cut y [] e = append-nil y
 cut y (a ∷ r) e = absurd (omega (arith, e))
 
 -- one part, and no words after it
-behind-one : (st : List ℕ) → length st ≡ 2 * node_state_words → (s : State) (y r : List ℕ) → st ≡ words_of s ++ (y ++ r) → node_state_words ≤ length y → (behind st ≡ y) × (length r ≡ 0)
-behind-one st l s y r e h =
+behind-one : (states : List ℕ) → length states ≡ 2 * node_state_words → (s : State) (y r : List ℕ) → states ≡ words_of s ++ (y ++ r) → node_state_words ≤ length y → (behind states ≡ y) × (length r ≡ 0)
+behind-one states l s y r e h =
     let n : length r ≡ 0 = omega (arith, l, ap length e, length-append y r, h) in
-    (rest_part st (words_of s) (y ++ r) node_state_words e refl ∙ cut y r n, n)
-
-leaf-kind : (l : Leaf) (sc : Scoring) → kind_of (leaf l sc) ≡ 3 → ⊥
-unfolding kind_of
-leaf-kind nothing sc e = omega (arith, e)
-leaf-kind (term l) sc e = omega (arith, e)
-leaf-kind (phrase f ts) sc e = omega (arith, e)
-leaf-kind (range r) sc e = omega (arith, e)
-leaf-kind everything sc e = omega (arith, e)
+    (rest_part states (words_of s) (y ++ r) node_state_words e refl ∙ cut y r n, n)
 
 scores-one : (f : Bool) (n : ℕ) → n ≡ cond f 1 0 → n ≡ 1 → f ≡ true
 scores-one true n e h = refl
 scores-one false n e h = absurd (omega (arith, e, h))
 
-module _ (E : Lent) (norms live : List ℕ) (table : List Float) (ix : Index) (places depth : ℕ) (st : List ℕ) where
+module _ (E : Lists) (norms live : List ℕ) (table : List Float) (ix : Index) (places depth : ℕ) (states : List ℕ) where
   pub record OnlyChild (s : Scorer) : Type 0 where
     pub child : Scorer
     pub scores : ℕ
-    pub held : RootHeld E norms live table ix places child (depth - 1) scores (behind st)
+    pub held : RootHeld E norms live table ix places child (depth - 1) scores (behind states)
     pub same : live_scored ix s ≡ live_scored ix child
 
   -- a child that stands behind the Boolean's record
-  module _ (s : Scorer) (o : ℕ) (H : RootHeld E norms live table ix places s depth o st) (t : Scorer) (f : Bool) (y : List ℕ) (is : behind st ≡ y) (h : Windowed ix E.ranges t (depth - 1) (cond f 1 0) y 0 0 nowhere) (S : Scorable ix table places t) where
+  module _ (s : Scorer) (o : ℕ) (H : RootHeld E norms live table ix places s depth o states) (t : Scorer) (f : Bool) (y : List ℕ) (is : behind states ≡ y) (h : Windowed ix E.ranges t (depth - 1) (cond f 1 0) y 0 0 nowhere) (S : Scorable ix table places t) where
     child-weighted : Weighted t
     child-weighted = ok-weighted ix E.ranges t (depth - 1) (cond f 1 0) y 0 (windowed-ok ix E.ranges t (depth - 1) (cond f 1 0) y 0 0 nowhere (omega arith) h)
 
@@ -153,23 +145,23 @@ module _ (E : Lent) (norms live : List ℕ) (table : List Float) (ix : Index) (p
           same = e;
         }
 
-  module _ (W : AloneWords st) where
+  module _ (W : AloneWords states) where
     -- of the children's words none are left but the first child's
-    pub only-child : (s : Scorer) (o : ℕ) → RootHeld E norms live table ix places s depth o st → OnlyChild s
+    pub only-child : (s : Scorer) (o : ℕ) → RootHeld E norms live table ix places s depth o states → OnlyChild s
     unfolding Windowed KeptIs sizes_of Sound Sounds Tables TablesOf nodes nodes_of
-    only-child (leaf l sc) o H = absurd (leaf-kind l sc (sym (windowed-kind ix E.ranges (leaf l sc) depth o st 0 0 nowhere H.held) ∙ W.kind-is))
+    only-child (leaf l sc) o H = absurd (leaf-no-boolean l sc (sym (windowed-kind ix E.ranges (leaf l sc) depth o states 0 0 nowhere H.held) ∙ W.kind-is))
     only-child (boolean (some c) j need rs os ps) o H = let p = H.held in absurd (omega (arith, p.7.kept.0, ap (λ (i : List ℕ). get_or i 11 0) p.4, W.kept))
     only-child (boolean none j need end end ps) o H = let p = H.held in absurd (omega (arith, p.7.optional-end, ap (λ (i : List ℕ). get_or i 5 0) p.4, W.optional-end))
     only-child (boolean none j need end (more f t g) ps) o H =
         let T : Scorer = boolean none j need end (more f t g) ps in
         let p = H.held in
         let q = optional-unasked ix E.ranges T need (more f t g) (depth - 1) p.2 0 p.11 in
-        let e : st ≡ words_of p.0 ++ (q.0 ++ (q.1 ++ p.3)) = p.4 ∙ ap (λ (i : List ℕ). words_of p.0 ++ (i ++ (p.2 ++ p.3))) p.10 ∙ ap (λ (i : List ℕ). words_of p.0 ++ (i ++ p.3)) q.2 ∙ ap (λ (i : List ℕ). words_of p.0 ++ i) (append_assoc q.0 q.1 p.3) in
-        let B = behind-one st W.long p.0 q.0 (q.1 ++ p.3) e (windowed-long ix E.ranges t (depth - 1) (cond f 1 0) q.0 0 0 nowhere q.3) in
+        let e : states ≡ words_of p.0 ++ (q.0 ++ (q.1 ++ p.3)) = p.4 ∙ ap (λ (i : List ℕ). words_of p.0 ++ (i ++ (p.2 ++ p.3))) p.10 ∙ ap (λ (i : List ℕ). words_of p.0 ++ (i ++ p.3)) q.2 ∙ ap (λ (i : List ℕ). words_of p.0 ++ i) (append_assoc q.0 q.1 p.3) in
+        let B = behind-one states W.long p.0 q.0 (q.1 ++ p.3) e (windowed-long ix E.ranges t (depth - 1) (cond f 1 0) q.0 0 0 nowhere q.3) in
         let n : length q.1 + length p.3 ≡ 0 = sym (length-append q.1 p.3) ∙ B.1 in
         let g-end : g ≡ end = none_left g (omega (arith, n, all-length ix E.ranges g (depth - 1) q.1 0 0 nowhere q.4)) in
         let p-end : ps ≡ end = none_left ps (omega (arith, n, all-length ix E.ranges ps (depth - 1) p.3 0 0 nowhere p.12)) in
-        let zero : get_or st 4 0 ≡ 0 = ap (λ (i : List ℕ). get_or i 4 0) p.4 ∙ p.7.required-end in
+        let zero : get_or states 4 0 ≡ 0 = ap (λ (i : List ℕ). get_or i 4 0) p.4 ∙ p.7.required-end in
         let one : need ≡ 1 = sym p.7.need-is ∙ sym (ap (λ (i : List ℕ). get_or i 3 0) p.4) ∙ W.optional zero in
         let S : Scorable ix table places t = record { sound = H.scorable.sound.1.0; tables = H.scorable.tables.1.0; few = omega (arith, H.scorable.few) } in
         let tree : T ≡ boolean none j 1 end (more f t end) end = ap (λ (i : ℕ). boolean none j i end (more f t g) ps) one ∙ ap (λ (i : Scorers). boolean none j 1 end (more f t i) ps) g-end ∙ ap (λ (i : Scorers). boolean none j 1 end (more f t end) i) p-end in
@@ -179,23 +171,23 @@ module _ (E : Lent) (norms live : List ℕ) (table : List Float) (ix : Index) (p
         let p = H.held in
         let q = p.10 in
         let own = windowed-less ix E.ranges t (depth - 1) (cond f 1 0) q.0 0 0 (required_places ix T 0 nowhere) nowhere (λ i l h. absurd (false≢true h)) q.3 in
-        let e : st ≡ words_of p.0 ++ (q.0 ++ (q.1 ++ (p.2 ++ p.3))) = p.4 ∙ ap (λ (i : List ℕ). words_of p.0 ++ (i ++ (p.2 ++ p.3))) q.2 ∙ ap (λ (i : List ℕ). words_of p.0 ++ i) (append_assoc q.0 q.1 (p.2 ++ p.3)) in
+        let e : states ≡ words_of p.0 ++ (q.0 ++ (q.1 ++ (p.2 ++ p.3))) = p.4 ∙ ap (λ (i : List ℕ). words_of p.0 ++ (i ++ (p.2 ++ p.3))) q.2 ∙ ap (λ (i : List ℕ). words_of p.0 ++ i) (append_assoc q.0 q.1 (p.2 ++ p.3)) in
         let long = windowed-long ix E.ranges t (depth - 1) (cond f 1 0) q.0 0 0 nowhere own in
-        let B = behind-one st W.long p.0 q.0 (q.1 ++ (p.2 ++ p.3)) e long in
+        let B = behind-one states W.long p.0 q.0 (q.1 ++ (p.2 ++ p.3)) e long in
         let n : length q.1 + (length p.2 + length p.3) ≡ 0 = omega (arith, B.1, length-append q.1 (p.2 ++ p.3), length-append p.2 p.3) in
         let g-end : g ≡ end = none_left g (omega (arith, n, all-length ix E.ranges g (depth - 1) q.1 0 0 (required_places ix T 0 nowhere) q.4)) in
         let o-end : os ≡ end = none_left os (omega (arith, n, all-length ix E.ranges os (depth - 1) p.2 (optional_bound need 0 0) 0 (optional_places ix T need 0 nowhere) p.11)) in
         let p-end : ps ≡ end = none_left ps (omega (arith, n, all-length ix E.ranges ps (depth - 1) p.3 0 0 nowhere p.12)) in
         let size : length q.0 ≡ size_of t = windowed-length ix E.ranges t (depth - 1) (cond f 1 0) q.0 0 0 nowhere own in
-        let some_words : get_or st 4 0 ≡ 0 → ⊥ = λ z. omega (arith, z, ap (λ (i : List ℕ). get_or i 4 0) p.4, p.7.required-end, size, long) in
+        let some_words : get_or states 4 0 ≡ 0 → ⊥ = λ z. omega (arith, z, ap (λ (i : List ℕ). get_or i 4 0) p.4, p.7.required-end, size, long) in
         let zero : need ≡ 0 = sym p.7.need-is ∙ sym (ap (λ (i : List ℕ). get_or i 3 0) p.4) ∙ W.need-is some_words in
-        let m : f ≡ true = scores-one f (get_or q.0 15 0) (windowed-scores ix E.ranges t (depth - 1) (cond f 1 0) q.0 0 0 nowhere own) (ap (λ (i : List ℕ). get_or i 15 0) (sym B.0) ∙ behind-word st W 15 (omega arith) ∙ W.scores some_words) in
+        let m : f ≡ true = scores-one f (get_or q.0 15 0) (windowed-scores ix E.ranges t (depth - 1) (cond f 1 0) q.0 0 0 nowhere own) (ap (λ (i : List ℕ). get_or i 15 0) (sym B.0) ∙ behind-word states W 15 (omega arith) ∙ W.scores some_words) in
         let S : Scorable ix table places t = record { sound = H.scorable.sound.0.0; tables = H.scorable.tables.0.0; few = omega (arith, H.scorable.few) } in
         let tree : T ≡ boolean none j 0 (more true t end) end end = ap (λ (i : ℕ). boolean none j i (more f t g) os ps) zero ∙ ap (λ (i : Bool). boolean none j 0 (more i t g) os ps) m ∙ ap (λ (i : Scorers). boolean none j 0 (more true t i) os ps) g-end ∙ ap (λ (i : Scorers). boolean none j 0 (more true t end) i ps) o-end ∙ ap (λ (i : Scorers). boolean none j 0 (more true t end) end i) p-end in
         child-held T o H t f q.0 B.0 own S (ap (live_scored ix) tree ∙ required-scored ix j t H.lends.accepted places (child-weighted T o H t f q.0 B.0 own S) S.sound S.few)
 
 -- The part by whose root the loop is chosen: its live matches with their scores are the tree's.
-module _ (E : Lent) (norms live : List ℕ) (table : List Float) (places depth : ℕ) (st : List ℕ) where
+module _ (E : Lists) (norms live : List ℕ) (table : List Float) (places depth : ℕ) (states : List ℕ) where
   pub record PartOf (part : List ℕ) (ix : Index) (s : Scorer) : Type 0 where
     pub child : Scorer
     pub deep : ℕ
@@ -204,10 +196,10 @@ module _ (E : Lent) (norms live : List ℕ) (table : List Float) (places depth :
     pub same : live_scored ix s ≡ live_scored ix child
 
   abbrev pub Part : List ℕ → Type 0
-  Part part = (ix : Index) (s : Scorer) (o : ℕ) → RootHeld E norms live table ix places s depth o st → PartOf part ix s
+  Part part = (ix : Index) (s : Scorer) (o : ℕ) → RootHeld E norms live table ix places s depth o states → PartOf part ix s
 
-  pub whole-part : (at : ℕ) → at ≡ 0 → Part (take (length st - at) (drop at st))
-  whole-part at e = let all : take (length st - 0) (drop 0 st) ≡ st = take_all (length st - 0) st (omega arith) in rw (e, all) (λ ix s o H. record { child = s; deep = depth; scores = o; held = H; same = refl })
+  pub whole-part : (at : ℕ) → at ≡ 0 → Part (take (length states - at) (drop at states))
+  whole-part at e = let all : take (length states - 0) (drop 0 states) ≡ states = take_all (length states - 0) states (omega arith) in rw (e, all) (λ ix s o H. record { child = s; deep = depth; scores = o; held = H; same = refl })
 
-  pub alone-part : AloneWords st → (at : ℕ) → at ≡ node_state_words → Part (take (length st - at) (drop at st))
-  alone-part W at e = rw e (λ ix s o H. let O = only-child E norms live table ix places depth st W s o H in record { child = O.child; deep = depth - 1; scores = O.scores; held = O.held; same = O.same })
+  pub alone-part : AloneWords states → (at : ℕ) → at ≡ node_state_words → Part (take (length states - at) (drop at states))
+  alone-part W at e = rw e (λ ix s o H. let O = only-child E norms live table ix places depth states W s o H in record { child = O.child; deep = depth - 1; scores = O.scores; held = O.held; same = O.same })

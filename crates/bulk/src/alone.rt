@@ -1,29 +1,31 @@
-// A Boolean of one child at the root, as an order of one word is while it is typed: its matches and their scores are those of the child.
+// A Boolean of one child at the root, as while one word is typed: its matches and their scores are the child's.
 ghost use Rattle.std.specs.Prelude.{◌≡◌, true};
 ghost use Rattle.bulk.specs.Alone.{AloneWords};
 
-use leaf_score::score_node_at;
-use node::{NodeKind, boolean_at};
-use weight::NODE_STATE_WORDS;
+use score_leaf::score_node_at;
+use tree_node::{NodeKind, boolean_at};
+use tree_weight::NODE_STATE_WORDS;
+use tree_weight::layout::{KIND, SCORES};
 
 // The child's scores word.
-// Kept: no plainer: child_at asks that a record of the length it says stands there, and of words that any caller lends that would be one test more.
-const CHILD_SCORES: usize = NODE_STATE_WORDS + 15;
+// Kept: `child_at` asks that a record of the length it says stands there, which would be one test more here.
+const CHILD_SCORES: usize = NODE_STATE_WORDS + SCORES;
 
-// Whether the words are such a Boolean, that is not constant and whose child is one record: required and scoring, or optional and needed.
-pub fn alone(st: &[u32]) -> bool
-    ensures { result ≡ true → AloneWords st.now }
+// Whether the words are such a Boolean without a constant score, its child one record: required and scoring, or
+// optional and needed.
+pub fn alone(states: &[u32]) -> bool
+    ensures { result ≡ true → AloneWords states.now }
 {
-    if st.len() != 2 * NODE_STATE_WORDS {
+    if states.len() != 2 * NODE_STATE_WORDS {
         return false;
     }
-    if NodeKind::from(st[0]) != NodeKind::Boolean {
+    if NodeKind::from(states[KIND]) != NodeKind::Boolean {
         return false;
     }
-    if score_node_at(st).constant != 0 {
+    if score_node_at(states).constant != 0 {
         return false;
     }
-    let root = boolean_at(st);
+    let root = boolean_at(states);
     if root.optional_end != NODE_STATE_WORDS {
         return false;
     }
@@ -33,5 +35,5 @@ pub fn alone(st: &[u32]) -> bool
     if root.need != 0 {
         return false;
     }
-    st[CHILD_SCORES] == 1
+    states[CHILD_SCORES] == 1
 }

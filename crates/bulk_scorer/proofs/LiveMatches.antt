@@ -11,7 +11,7 @@ use Rattle.meaning.specs.Lent.{Index}
 use Rattle.meaning.specs.Live.{is_live}
 use Rattle.index.specs.Accepted.{Accepted}
 use Rattle.index.specs.Slices.{live_only}
-use Rattle.weight.specs.ScorerTree.{Scorer, matches}
+use Rattle.tree_weight.specs.ScorerTree.{Scorer, matches}
 use Rattle.walk.specs.Walks.{live_match}
 
 and-false : (a : Bool) → a && false ≡ false

@@ -1,17 +1,15 @@
 -- Documents in rising order, without the walk: what is collected so far, and what is left. Assumes nothing.
+use Rattle.std.proofs.lemmas.List.{map-append}
 use mathlib.Core.Path.{◌≡◌, refl, sym, ap, subst, ◌∙◌}
-use mathlib.Core.Logic.{⊎_elim}
 use mathlib.Core.Bool.{Bool, true, false, cond, ◌&&◌}
 use mathlib.Core.List.{List, [], ◌∷◌, ◌++◌, map, append_assoc, append-nil}
-use Prim.Native.Nat.{ℕ, zero, suc, ◌+◌, ◌≤◌, ◌<◌}
-use native.Mathlib.Nat.{le_refl}
+use Prim.Native.Nat.{ℕ, suc, ◌+◌, ◌≤◌, ◌<◌}
 use native.Mathlib.Omega.{arith}
-use borrow.Author.Tests.{le-leb, lt-leb, lt-ltb}
+use borrow.Author.Tests.{le-leb}
 use lib.Dec.{T, leb}
 use lib.ListN.{length}
 use lib.IntN.{ℤ}
 use lib.Ieee.{Float, nan, inf, fin}
-use Rattle.meaning.specs.Below.{list_below}
 use Rattle.meaning.specs.Limits.{no_more_docs}
 use Rattle.meaning.specs.Lent.{Index}
 use Rattle.meaning.specs.Live.{is_live}
@@ -20,12 +18,12 @@ use Rattle.meaning.specs.FullList.{ScoreDoc}
 use Rattle.meaning.specs.Pages.{from_target}
 use Rattle.ieee754.specs.Nonneg.{nonneg, sign_clear}
 use Rattle.collector.specs.declared.TopScoreDocCollector.{TopScoreDocCollector}
-use Rattle.collector.specs.Collected.{Collected, Ready, Extended}
+use Rattle.collector.specs.Collected.{Collected, CollectorReady, Extended}
 use Rattle.collector.proofs.Beginning.{collected-later}
-use Rattle.meaning.proofs.Tests.{cmp}
-use Rattle.weight.specs.ScorerTree.{Scorer, matches, scorer_score}
+use Rattle.tree_weight.specs.ScorerTree.{Scorer, matches, scorer_score}
 use Rattle.walk.specs.Walks.{live_match, scored, live_scored}
-use Rattle.walk.proofs.Pages.{match_is, walk-next}
+use Rattle.walk.proofs.Left.{skip-left, none_left}
+use Rattle.walk.proofs.Pages.{match_is, match-below, walk-next}
 use Rattle.bulk_scorer.specs.Collects.{numbered, Continued}
 
 -- every document is at or after 0
@@ -39,86 +37,14 @@ nonneg-clear nan p = p
 nonneg-clear (inf s) p = absurd p
 nonneg-clear (fin s m e) p = p
 
-from-append : (t : ℕ) (xs ys : List ScoreDoc) → from_target t (xs ++ ys) ≡ from_target t xs ++ from_target t ys
-unfolding from_target
-from-append t [] ys = refl
-from-append t (x ∷ xs) ys = ap (λ (l : List ScoreDoc). cond (leb t x.doc) (x ∷ []) [] ++ l) (from-append t xs ys) ∙ sym (append_assoc (cond (leb t x.doc) (x ∷ []) []) (from_target t xs) (from_target t ys))
-
-map-append : (f : ℕ → ScoreDoc) (xs ys : List ℕ) → map f (xs ++ ys) ≡ map f xs ++ map f ys
-map-append f [] ys = refl
-map-append f (x ∷ xs) ys = ap (λ (l : List ScoreDoc). f x ∷ l) (map-append f xs ys)
-
-numbered-append : (doc_base : ℕ) (xs ys : List ScoreDoc) → map (numbered doc_base) (xs ++ ys) ≡ map (numbered doc_base) xs ++ map (numbered doc_base) ys
-numbered-append doc_base [] ys = refl
-numbered-append doc_base (x ∷ xs) ys = ap (λ (l : List ScoreDoc). numbered doc_base x ∷ l) (numbered-append doc_base xs ys)
-
-module _ (f : ℕ → ScoreDoc) (doc-is : (d : ℕ) → (f d).doc ≡ d) (p : ℕ → Bool) where
-  -- those below n, from t on
-  Left : ℕ → ℕ → List ScoreDoc
-  Left t n = from_target t (map f (list_below n p))
-
-  -- one document
-  one_left : ℕ → ℕ → List ScoreDoc
-  one_left t d = from_target t (map f (cond (p d) (d ∷ []) []))
-
-  one_more : (t n : ℕ) → Left t (suc n) ≡ Left t n ++ one_left t n
-  unfolding list_below Left one_left
-  one_more t n = ap (from_target t) (map-append f (list_below n p) (cond (p n) (n ∷ []) [])) ∙ from-append t (map f (list_below n p)) (map f (cond (p n) (n ∷ []) []))
-
-  none_here : (t d : ℕ) → p d ≡ false → one_left t d ≡ []
-  unfolding one_left from_target
-  none_here t d h = rw h
-
-  none_before : (t d : ℕ) → d < t → one_left t d ≡ []
-  unfolding one_left from_target
-  none_before t d l = go (p d)
-    where
-      go : (b : Bool) → from_target t (map f (cond b (d ∷ []) [])) ≡ []
-      go true = let q : leb t (f d).doc ≡ false = ap (leb t) (doc-is d) ∙ lt-leb t d l in rw q
-      go false = refl
-
-  same-one : (t r d : ℕ) → t ≤ d → r ≤ d → one_left t d ≡ one_left r d
-  unfolding one_left from_target
-  same-one t r d l m = go (p d)
-    where
-      go : (b : Bool) → from_target t (map f (cond b (d ∷ []) [])) ≡ from_target r (map f (cond b (d ∷ []) []))
-      go true = let q : leb t (f d).doc ≡ true = ap (leb t) (doc-is d) ∙ le-leb t d l in let s : leb r (f d).doc ≡ true = ap (leb r) (doc-is d) ∙ le-leb r d m in rw (q, s)
-      go false = refl
-
-  start_left : (t : ℕ) → Left t zero ≡ []
-  unfolding Left list_below from_target
-  start_left t = refl
-
-  -- none between two documents: what is left from either is the same
-  skip-one : (t r d : ℕ) → t ≤ r → (t ≤ d → d < r → p d ≡ false) → one_left t d ≡ one_left r d
-  skip-one t r d l h =
-      ⊎_elim
-      (λ a. none_before t d a ∙ sym (none_before r d (omega arith)))
-      (λ a. ⊎_elim (λ b. none_here t d (h a b) ∙ sym (none_here r d (h a b))) (λ b. same-one t r d a b) (cmp d r))
-      (cmp d t)
-
-  skip-left : (n t r : ℕ) → t ≤ r → ((d : ℕ) → t ≤ d → d < r → d < n → p d ≡ false) → Left t n ≡ Left r n
-  skip-left zero t r l h = start_left t ∙ sym (start_left r)
-  skip-left (suc n) t r l h =
-      one_more t n ∙ ap (λ (i : List ScoreDoc). i ++ one_left t n) (skip-left n t r l (λ d a b c. h d a b (omega arith))) ∙ ap (λ (i : List ScoreDoc). Left r n ++ i) (skip-one t r n l (λ a b. h n a b (le_refl _))) ∙ sym (one_more r n)
-
-  none_left : (n t : ℕ) → ((d : ℕ) → t ≤ d → d < n → p d ≡ false) → Left t n ≡ []
-  none_left zero t h = start_left t
-  none_left (suc n) t h =
-      one_more t n ∙ ap (λ (l : List ScoreDoc). l ++ one_left t n) (none_left n t (λ d a b. h d a (omega arith))) ∙ ⊎_elim (λ a. none_before t n a) (λ a. none_here t n (h n a (le_refl _))) (cmp n t)
-
 module _ (ix : Index) (s : Scorer) where
-  live_below : (d : ℕ) → d < ix.max_doc → live_match ix s d ≡ false → is_live ix d && matches ix s d ≡ false
-  unfolding live_match
-  live_below d l e = sym (ap (λ (b : Bool). b && (is_live ix d && matches ix s d)) (lt-ltb d ix.max_doc l)) ∙ e
-
   skipped : (from to : ℕ) → from ≤ to → ((d : ℕ) → from ≤ d → d < to → live_match ix s d ≡ false) → from_target from (live_scored ix s) ≡ from_target to (live_scored ix s)
-  unfolding live_scored Left
-  skipped from to l h = skip-left (scored ix s) (λ d. refl) (λ d. is_live ix d && matches ix s d) ix.max_doc from to l (λ d a b c. live_below d c (h d a b))
+  unfolding live_scored
+  skipped from to l h = skip-left (scored ix s) (λ d. refl) (λ d. is_live ix d && matches ix s d) ix.max_doc from to l (λ d a b c. match-below ix s d c (h d a b))
 
   none-live : (from : ℕ) → ((d : ℕ) → from ≤ d → live_match ix s d ≡ false) → from_target from (live_scored ix s) ≡ []
-  unfolding live_scored Left
-  none-live from h = none_left (scored ix s) (λ d. refl) (λ d. is_live ix d && matches ix s d) ix.max_doc from (λ d a b. live_below d b (h d a))
+  unfolding live_scored
+  none-live from h = none_left (scored ix s) (λ d. refl) (λ d. is_live ix d && matches ix s d) ix.max_doc from (λ d a b. match-below ix s d b (h d a))
 
   module _ (doc_base : ℕ) (c₀ : TopScoreDocCollector) (heap₀ : List ℤ) where
     -- the live matches before a document are collected, after what was collected at the start
@@ -146,7 +72,7 @@ module _ (ix : Index) (s : Scorer) where
           }
 
       -- the collector can be handed a document at or after `from`
-      pub sofar-ready : Ready doc_base c₀ heap₀ → (doc : ℕ) → doc_base + from ≤ doc → Ready doc c heap
+      pub sofar-ready : CollectorReady doc_base c₀ heap₀ → (doc : ℕ) → doc_base + from ≤ doc → CollectorReady doc c heap
       sofar-ready R doc l =
           let q = i.collected (length heap₀) R.t R.b R.list R.start R.before R.collected in
           record {
@@ -173,7 +99,7 @@ module _ (ix : Index) (s : Scorer) where
                 let more = x.extended kk t (doc_base + from) (xs ++ map (numbered doc_base) i.ys) start (omega (arith, l)) (i.collected kk t b₀ xs start a p) in
                 let bound : doc_base + d + 1 ≡ doc_base + (d + 1) = omega arith in
                 let list : (xs ++ map (numbered doc_base) i.ys) ++ (record { doc = doc_base + d; score = r } ∷ []) ≡ xs ++ map (numbered doc_base) (i.ys ++ (z ∷ [])) =
-                append_assoc xs (map (numbered doc_base) i.ys) (record { doc = doc_base + d; score = r } ∷ []) ∙ ap (λ (y : ScoreDoc). xs ++ (map (numbered doc_base) i.ys ++ (y ∷ []))) k ∙ ap (λ (y : List ScoreDoc). xs ++ y) (sym (numbered-append doc_base i.ys (z ∷ []))) in
+                append_assoc xs (map (numbered doc_base) i.ys) (record { doc = doc_base + d; score = r } ∷ []) ∙ ap (λ (y : ScoreDoc). xs ++ (map (numbered doc_base) i.ys ++ (y ∷ []))) k ∙ ap (λ (y : List ScoreDoc). xs ++ y) (sym (map-append (numbered doc_base) i.ys (z ∷ []))) in
                 subst (λ (y : List ScoreDoc). Collected kk t (doc_base + (d + 1)) y start c' heap') list (subst (λ (j : ℕ). Collected kk t j ((xs ++ map (numbered doc_base) i.ys) ++ (record { doc = doc_base + d; score = r } ∷ [])) start c' heap') bound more);
           }
 

@@ -6,7 +6,6 @@ use mathlib.Core.Option.{Option, none, some}
 use Prim.Native.Nat.{ℕ, ◌^◌, ◌≤◌, ◌<◌}
 use native.Mathlib.Omega.{arith}
 use lib.Dec.{T}
-use lib.ListN.{get_or}
 use lib.Ieee.{Float, binary32, nan_bits, of_bits}
 use Rattle.meaning.specs.Limits.{largest_frequency}
 use Rattle.meaning.specs.Lent.{Index, leaf_count, leaf_field}
@@ -15,13 +14,13 @@ use Rattle.meaning.specs.Score.{field_score}
 use Rattle.ieee754.specs.Nonneg.{AtMost}
 use Rattle.index.specs.Accepted.{Accepted}
 use Rattle.index.proofs.PostingAt.{posting-is}
-use Rattle.weight.specs.ScorerTree.{term, Scoring, constant, weighted, leaf_score}
-use Rattle.weight.specs.Sound.{LeafTable}
-use Rattle.leaf_score.specs.declared.ScoreNode.{ScoreNode}
-use Rattle.leaf_score.specs.Asked.{LentAt}
-use Rattle.leaf_score.specs.Words.{Bytes, Weighs, answer}
-use Rattle.leaf_score.proofs.Leaves.{field-weighs, field-answer}
-use Rattle.leaf_score.proofs.Weights.{float_back, float-number}
+use Rattle.tree_weight.specs.ScorerTree.{term, Scoring, constant, weighted, leaf_score}
+use Rattle.tree_weight.specs.Sound.{LeafTable}
+use Rattle.score_leaf.specs.declared.ScoreNode.{ScoreNode}
+use Rattle.score_leaf.specs.Asked.{LentAt}
+use Rattle.score_leaf.specs.Words.{Bytes, Weighs, weighted_score}
+use Rattle.score_leaf.proofs.Leaves.{field-weighs, field-answer}
+use Rattle.score_leaf.proofs.Weights.{float_back, float-number}
 use Rattle.bulk_term.specs.Postings.{NodeScores, PostingAsks}
 
 frequency-few : (ix : Index) → Accepted ix → (l doc : ℕ) → l < leaf_count ix → (o : Option ℕ) → posting_at ix l doc ≡ o → found o ≡ true → frequency_of ix l o ≤ largest_frequency
@@ -50,7 +49,7 @@ module _ (norms : List ℕ) (table : List Float) (n : ScoreNode) (frequency doc 
   posting-weighs (weighted w) p m =
       field-weighs ix ix.max_doc ix.postings ix.positions norms doc (lends-at (weighted w) p) table n (leaf_field ix l) (p.accepted.leaf l p.leaf-there).field p.tables w p.scores.1 p.field_is p.norms-is frequency (few (weighted w) p)
 
-  pub posting-weighted : (sc : Scoring) → PostingAsks ix table norms l sc n frequency doc → (n.constant ≡ 1 → ⊥) → Bytes norms → (r : Float) → r ≡ answer n norms table doc frequency → (r ≡ leaf_score ix (term l) sc doc) × AtMost (2 ^ 29) r
+  pub posting-weighted : (sc : Scoring) → PostingAsks ix table norms l sc n frequency doc → (n.constant ≡ 1 → ⊥) → Bytes norms → (r : Float) → r ≡ weighted_score n norms table doc frequency → (r ≡ leaf_score ix (term l) sc doc) × AtMost (2 ^ 29) r
   unfolding NodeScores LeafTable leaf_score
   posting-weighted (constant c) p m bytes r q = absurd (m p.scores.0)
   posting-weighted (weighted w) p m bytes r q =

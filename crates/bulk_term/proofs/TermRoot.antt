@@ -17,20 +17,20 @@ use Rattle.meaning.specs.Live.{is_live}
 use Rattle.meaning.specs.Postings.{posting_at, found, frequency_of}
 use Rattle.ieee754.specs.Nonneg.{AtMost, sign_clear}
 use Rattle.collector.specs.declared.TopScoreDocCollector.{TopScoreDocCollector}
-use Rattle.collector.specs.Collected.{Ready, Extended}
+use Rattle.collector.specs.Collected.{CollectorReady, Extended}
 use Rattle.index.specs.Accepted.{Accepted}
 use Rattle.index.specs.Slices.{live_only}
 use Rattle.index.proofs.PostingAt.{posting-at, posting-none}
-use Rattle.weight.specs.ScorerTree.{nothing, term, phrase, range, everything, Scoring, Scorer, leaf, boolean, matches, leaf_matches, leaf_score, scorer_score}
-use Rattle.weight.specs.Held.{norms_word, LeafIs, Ok}
-use Rattle.weight.specs.Sound.{LeafSound, Sound, LeafTable, Tables}
-use Rattle.scorer.specs.Calls.{Lent}
+use Rattle.tree_weight.specs.ScorerTree.{nothing, term, phrase, range, everything, Scoring, Scorer, leaf, boolean, matches, leaf_matches, leaf_score, scorer_score}
+use Rattle.tree_weight.specs.Held.{norms_word, LeafIs, Ok}
+use Rattle.tree_weight.specs.Sound.{LeafSound, Sound, LeafTable, Tables}
+use Rattle.scorer.specs.Calls.{Lists}
 use Rattle.meaning.proofs.Tests.{cmp}
-use Rattle.leaf_scorer.specs.declared.LeafReader.{LeafReader}
-use Rattle.leaf_score.specs.declared.ScoreNode.{ScoreNode}
-use Rattle.leaf_score.specs.Words.{ScoreNodeIs, first_byte}
+use Rattle.scorer_leaf.specs.declared.LeafReader.{LeafReader}
+use Rattle.score_leaf.specs.declared.ScoreNode.{ScoreNode}
+use Rattle.score_leaf.specs.Words.{ScoreNodeIs, first_byte}
 use Rattle.walk.specs.Walks.{live_match, PageHeld}
-use Rattle.leaf_score.proofs.Leaves.{read, kind-read}
+use Rattle.score_leaf.proofs.Leaves.{read, kind-read}
 use Rattle.bulk_scorer.specs.Collects.{CollectPre, CollectPost}
 use Rattle.bulk_term.specs.Postings.{NodeScores, PostingAsks}
 use Rattle.bulk_scorer.proofs.LiveMatches.{live_of, live-there, not-match, not_live, is-match}
@@ -61,13 +61,13 @@ pub record RootIs (R : LeafReader) (n : ScoreNode) (ix : Index) (s : Scorer) : T
   pub root : TermRoot R n ix l sc
 
 -- the words of kind 1 are a term's
-module _ (R : LeafReader) (n : ScoreNode) (E : Lent) (places depth : ℕ) (st : List ℕ) (N : ScoreNodeIs st n) (k : get_or st 0 0 ≡ 1) (same : E.postings ≡ R.postings.now) where
-  term-root : (ix : Index) (s : Scorer) (scores : ℕ) → PageHeld E R.norms.now R.live.now R.inverses.now ix places s depth scores st 0 → RootIs R n ix s
+module _ (R : LeafReader) (n : ScoreNode) (E : Lists) (places depth : ℕ) (states : List ℕ) (N : ScoreNodeIs states n) (k : get_or states 0 0 ≡ 1) (same : E.postings ≡ R.postings.now) where
+  term-root : (ix : Index) (s : Scorer) (scores : ℕ) → PageHeld E R.norms.now R.live.now R.inverses.now ix places s depth scores states 0 → RootIs R n ix s
   unfolding Ok LeafIs Sound LeafSound Tables
-  term-root ix (leaf nothing sc) m H = absurd (omega (arith, kind-read st H.ok.1 H.ok.0 H.ok.2, H.ok.4.0))
+  term-root ix (leaf nothing sc) m H = absurd (omega (arith, kind-read states H.ok.1 H.ok.0 H.ok.2, H.ok.4.0))
   term-root ix (leaf (term l) sc) m H =
       let p = H.ok in
-      let W = read st p.1 p.0 n p.2 N in
+      let W = read states p.1 p.0 n p.2 N in
       let i = p.4.0 in
       record {
         l = l;
@@ -87,10 +87,10 @@ module _ (R : LeafReader) (n : ScoreNode) (E : Lent) (places depth : ℕ) (st : 
           scores = node-scores sc p.0 n W.constant-is W.weight_is p.5;
         };
       }
-  term-root ix (leaf (phrase f ts) sc) m H = absurd (omega (arith, kind-read st H.ok.1 H.ok.0 H.ok.2, H.ok.4.kind-is))
-  term-root ix (leaf (range r) sc) m H = absurd (omega (arith, kind-read st H.ok.1 H.ok.0 H.ok.2, H.ok.4.0.kind-is))
-  term-root ix (leaf everything sc) m H = absurd (omega (arith, kind-read st H.ok.1 H.ok.0 H.ok.2, H.ok.4.0))
-  term-root ix (boolean c j need rs os ps) m H = let p = H.ok in absurd (omega (arith, kind-read st (p.1 ++ (p.2 ++ p.3)) p.0 p.4, p.7.kind-is))
+  term-root ix (leaf (phrase f ts) sc) m H = absurd (omega (arith, kind-read states H.ok.1 H.ok.0 H.ok.2, H.ok.4.kind-is))
+  term-root ix (leaf (range r) sc) m H = absurd (omega (arith, kind-read states H.ok.1 H.ok.0 H.ok.2, H.ok.4.0.kind-is))
+  term-root ix (leaf everything sc) m H = absurd (omega (arith, kind-read states H.ok.1 H.ok.0 H.ok.2, H.ok.4.0))
+  term-root ix (boolean c j need rs os ps) m H = let p = H.ok in absurd (omega (arith, kind-read states (p.1 ++ (p.2 ++ p.3)) p.0 p.4, p.7.kind-is))
 
 -- a root that a call asks of
 pub record RootAt (R : LeafReader) (n : ScoreNode) (doc_base : ℕ) : Type 0 where
@@ -103,9 +103,9 @@ pub record RootAt (R : LeafReader) (n : ScoreNode) (doc_base : ℕ) : Type 0 whe
   -- the last posting ends within the postings
   pub ends : 3 * (n.first + n.number) ≤ length R.postings.now
 
-pub asked-root : (R : LeafReader) (n : ScoreNode) (st : List ℕ) (doc_base : ℕ) (c : TopScoreDocCollector) (heap : List ℤ) → (E : Lent) × (places : ℕ) × (depth : ℕ) × (E.postings ≡ R.postings.now) × (get_or st 0 0 ≡ 1) × CollectPre E R.norms.now R.live.now R.inverses.now places st depth doc_base c heap → ScoreNodeIs st n → RootAt R n doc_base
-asked-root R n st doc_base c heap q N =
-    let w = term-root R n q.0 q.1 q.2 st N q.4 q.3 q.5.2.0 q.5.2.1 q.5.2.2 (root-page q.0 R.norms.now R.live.now R.inverses.now q.5.2.0 q.1 q.5.2.1 q.2 q.5.2.2 st q.5.2.3) in
+pub asked-root : (R : LeafReader) (n : ScoreNode) (states : List ℕ) (doc_base : ℕ) (c : TopScoreDocCollector) (heap : List ℤ) → (E : Lists) × (places : ℕ) × (depth : ℕ) × (E.postings ≡ R.postings.now) × (get_or states 0 0 ≡ 1) × CollectPre E R.norms.now R.live.now R.inverses.now places states depth doc_base c heap → ScoreNodeIs states n → RootAt R n doc_base
+asked-root R n states doc_base c heap q N =
+    let w = term-root R n q.0 q.1 q.2 states N q.4 q.3 q.5.2.0 q.5.2.1 q.5.2.2 (root-page q.0 R.norms.now R.live.now R.inverses.now q.5.2.0 q.1 q.5.2.1 q.2 q.5.2.2 states q.5.2.3) in
     let r = w.root in
     let e : length q.5.2.0.postings ≡ length R.postings.now = ap length r.postings-are in
     record {
@@ -200,9 +200,9 @@ module _ {R : LeafReader} {n : ScoreNode} {i doc frequency : ℕ} (Q : PostingIs
     term-clear r post = let p = term_asks in nonneg-clear r (post p.0 p.1 p.2 p.3).1.sign
 
 module _ {R : LeafReader} {n : ScoreNode} {doc_base : ℕ} {c₀ : TopScoreDocCollector} {heap₀ : List ℤ} {c : TopScoreDocCollector} {heap : List ℤ} {i : ℕ} (I : TermsAt R n doc_base c₀ heap₀ c heap i) where
-  pub term-done : n.number ≤ i → (st : List ℕ) → ScoreNodeIs st n → get_or st 0 0 ≡ 1 → (E : Lent) (places depth : ℕ) → E.postings ≡ R.postings.now → CollectPost E R.norms.now R.live.now R.inverses.now places st depth doc_base c₀ heap₀ c heap
-  term-done h st N k E places depth same ix s scores H =
-      let W = term-root R n E places depth st N k same ix s scores (root-page E R.norms.now R.live.now R.inverses.now ix places s depth scores st H) in
+  pub term-done : n.number ≤ i → (states : List ℕ) → ScoreNodeIs states n → get_or states 0 0 ≡ 1 → (E : Lists) (places depth : ℕ) → E.postings ≡ R.postings.now → CollectPost E R.norms.now R.live.now R.inverses.now places states depth doc_base c₀ heap₀ c heap
+  term-done h states N k E places depth same ix s scores H =
+      let W = term-root R n E places depth states N k same ix s scores (root-page E R.norms.now R.live.now R.inverses.now ix places s depth scores states H) in
       let p = I.of ix W.l W.sc W.root in
       rw W.is
       (sofar-done ix (leaf (term W.l) W.sc) doc_base c₀ heap₀ c heap p.from p.sofar E.documents (omega (arith, p.few, H.lends.documents))
@@ -212,7 +212,7 @@ module _ {R : LeafReader} {n : ScoreNode} {doc_base : ℕ} {c₀ : TopScoreDocCo
     from-here : (ix : Index) (l : ℕ) (sc : Scoring) (W : TermRoot R n ix l sc) → (I.of ix l sc W).from ≤ doc
     from-here ix l sc W = omega (arith, document Q ix l sc W, (I.of ix l sc W).ahead Q.below)
 
-    pub term-ready : RootAt R n doc_base → Ready doc_base c₀ heap₀ → Ready (doc_base + doc) c heap
+    pub term-ready : RootAt R n doc_base → CollectorReady doc_base c₀ heap₀ → CollectorReady (doc_base + doc) c heap
     term-ready W start =
         let p = I.of W.ix W.l W.sc W.root in
         sofar-ready W.ix (leaf (term W.l) W.sc) doc_base c₀ heap₀ c heap p.from p.sofar start (doc_base + doc) (omega (arith, from-here W.ix W.l W.sc W.root))

@@ -3,11 +3,11 @@ use Rattle.std.specs.Prelude.{◌≡◌, true, List, ℕ, ◌<◌, Float}
 use Rattle.meaning.specs.Lent.{Index, leaf_count, leaf_field}
 use Rattle.meaning.specs.Postings.{posting_at, found, frequency_of}
 use Rattle.index.specs.Accepted.{Accepted}
-use Rattle.weight.specs.ScorerTree.{term, Scoring, constant, weighted}
-use Rattle.weight.specs.Held.{norms_word, FloatIs}
-use Rattle.weight.specs.Sound.{LeafTable}
-use Rattle.leaf_score.specs.declared.ScoreNode.{ScoreNode}
-use Rattle.leaf_score.specs.Words.{first_byte}
+use Rattle.tree_weight.specs.ScorerTree.{term, Scoring, constant, weighted}
+use Rattle.tree_weight.specs.Held.{norms_word, FloatIs}
+use Rattle.tree_weight.specs.Sound.{LeafTable}
+use Rattle.score_leaf.specs.declared.ScoreNode.{ScoreNode}
+use Rattle.score_leaf.specs.Words.{first_byte}
 
 -- how the node scores, in the two words that say it
 unfoldable pub NodeScores : Scoring → ScoreNode → Type 0
@@ -15,7 +15,8 @@ NodeScores (constant c) n = (n.constant ≡ 1) × FloatIs c n.weight
 NodeScores (weighted w) n = (n.constant ≡ 0) × FloatIs w n.weight
 
 -- n is what is read of the node of leaf l, which stands in the document with this frequency
-pub record PostingAsks (ix : Index) (table : List Float) (norms : List ℕ) (l : ℕ) (sc : Scoring) (n : ScoreNode) (frequency doc : ℕ) : Type 0 where
+pub record PostingAsks (ix : Index) (table : List Float) (norms : List ℕ) (l : ℕ) (sc : Scoring)
+    (n : ScoreNode) (frequency doc : ℕ) : Type 0 where
   pub accepted : Accepted ix
   pub norms-are : ix.norms ≡ norms
   pub document : doc < ix.max_doc

@@ -2,31 +2,41 @@
 #![tactic(auto)]
 
 ghost use Rattle.std.specs.Prelude.{◌≡◌, ℕ, get_or};
-ghost use Rattle.scorer.specs.Calls.{Lent};
+ghost use Rattle.tree_weight.specs.declared.layout.TheConstants.{KIND};
+ghost use Rattle.scorer.specs.Calls.{Lists};
 ghost use Rattle.bulk_scorer.specs.Collects.{CollectPre, CollectPost};
 
 use collector::TopScoreDocCollector;
-use leaf_scorer::LeafReader;
+use index::postings::POSTING_WORDS;
 use posting::posting_score;
+use scorer_leaf::LeafReader;
 
 pub mod posting;
 
-// The term's live documents to the collector, numbered on from a document base; its words stay as they are.
-// A function by itself: drawn into the search, its loop has too few registers, and a word takes 1.06 of the time (measured).
+// The term's live documents to the collector, each plus `doc_base`; its words stay as they are.
+// Not inlined: within the search its loop has too few registers, and an order of one word takes 1.06 of the time
+// (measured).
 #[inline(never)]
 pub fn collect_term(
-    st: &[u32],
+    states: &[u32],
     reader: &LeafReader<'_>,
     doc_base: u32,
     c: TopScoreDocCollector,
     heap: &mut [i64],
 ) -> TopScoreDocCollector
-    requires { (E : Lent) × (places : ℕ) × (depth : ℕ) × (E.postings ≡ reader.now.postings.now) × (get_or st.now 0 0 ≡ 1) × CollectPre E reader.now.norms.now reader.now.live.now reader.now.inverses.now places st.now depth doc_base c heap.old }
-    ensures { (E : Lent) (places depth : ℕ) → E.postings ≡ reader.now.postings.now → CollectPost E reader.now.norms.now reader.now.live.now reader.now.inverses.now places st.now depth doc_base c heap.old result heap.new }
+    requires { (E : Lists) × (places : ℕ) × (depth : ℕ) × (E.postings ≡ reader.now.postings.now)
+        × (get_or states.now KIND 0 ≡ 1)
+        × CollectPre E reader.now.norms.now reader.now.live.now reader.now.inverses.now places
+        states.now depth doc_base c heap.old }
+    ensures { (E : Lists) (places depth : ℕ) → E.postings ≡ reader.now.postings.now
+        → CollectPost E reader.now.norms.now reader.now.live.now reader.now.inverses.now places
+        states.now depth doc_base c heap.old result heap.new }
 {
-    let n = leaf_score::score_node_at(st);
-    let from = 3 * n.first;
-    let (postings, _) = reader.postings[from..from + 3 * n.number].as_chunks::<3>();
+    let n = score_leaf::score_node_at(states);
+    let from = POSTING_WORDS * n.first;
+    let (postings, _) = reader.postings[from..from + POSTING_WORDS * n.number].as_chunks::<
+        POSTING_WORDS,
+    >();
     // Read once: the heap's stores would have them read again at each posting.
     let live = reader.live;
     let norms = reader.norms;

@@ -1,5 +1,6 @@
 -- The loop over windows: the live matches before a window are collected. Assumes nothing.
-use Rattle.std.proofs.Common.{◌≡◌, refl, sym, ap, subst, ◌∙◌, Bool, true, false, ◌&&◌, List, [], ◌∷◌, ◌++◌, map, ℕ, ◌+◌, ◌-◌, ◌*◌, ◌≤◌, ◌<◌, min, ltb, length, get_or, ℤ, arith, lt-ltb, le-ltb, ⊎_elim}
+use Rattle.std.proofs.lemmas.Bool.{and_parts}
+use Rattle.std.proofs.Common.{◌≡◌, refl, sym, ap, subst, ◌∙◌, Bool, true, ◌&&◌, List, [], ◌∷◌, ◌++◌, map, ℕ, ◌+◌, ◌-◌, ◌*◌, ◌≤◌, ◌<◌, min, ltb, length, get_or, ℤ, arith, lt-ltb, le-ltb, ⊎_elim}
 use mathlib.Core.List.{append_assoc, append-nil}
 use mathlib.Core.Bool.{and_assoc, false≢true}
 use Rattle.meaning.proofs.Tests.{cmp}
@@ -11,14 +12,14 @@ use Rattle.meaning.specs.Live.{is_live}
 use Rattle.meaning.specs.FullList.{ScoreDoc}
 use Rattle.bits.specs.Bit.{bit, set_bits}
 use Rattle.collector.specs.declared.TopScoreDocCollector.{TopScoreDocCollector}
-use Rattle.collector.specs.Collected.{Collected, Ready}
+use Rattle.collector.specs.Collected.{Collected, CollectorReady}
 use Rattle.collector.proofs.Beginning.{collected-later}
 use Rattle.index.specs.Slices.{live_only}
-use Rattle.weight.specs.ScorerTree.{Scorer, matches, scorer_score}
-use Rattle.weight.specs.Held.{Ok}
-use Rattle.leaf_scorer.specs.Calls.{Lent, lent_of, RoomIn}
-use Rattle.leaf_scorer.specs.declared.LeafReader.{LeafReader}
-use Rattle.leaf_scorer.proofs.Bounds.{ok-mono}
+use Rattle.tree_weight.specs.ScorerTree.{Scorer, matches, scorer_score}
+use Rattle.tree_weight.specs.Held.{Ok}
+use Rattle.scorer_leaf.specs.Calls.{Lists, lists_of, RoomIn}
+use Rattle.scorer_leaf.specs.declared.LeafReader.{LeafReader}
+use Rattle.scorer_leaf.proofs.Bounds.{ok-mono}
 use Rattle.walk.specs.Walks.{live_match, scored, live_scored}
 use Rattle.window_words.specs.Windowed.{nowhere, places_of, Windowed}
 use Rattle.window_words.proofs.Laws.{windowed-less, windowed-forget, windowed-ok}
@@ -28,14 +29,6 @@ use Rattle.bulk_scorer.specs.Collects.{RootHeld, numbered, Continued}
 use Rattle.bulk_scorer.proofs.LiveMatches.{live_of, live-there, not-match, not-below}
 use Rattle.bulk_window.specs.Windows.{LiveBits, NextWindow, placed, WindowPre, WindowPost}
 use Rattle.bulk_window.proofs.Lists.{list-split, list-skip}
-
-and-left : (a b : Bool) → a && b ≡ true → a ≡ true
-and-left true b e = refl
-and-left false b e = absurd (false≢true e)
-
-and-right : (a b : Bool) → a && b ≡ true → b ≡ true
-and-right true b e = e
-and-right false b e = absurd (false≢true e)
 
 below : (d n : ℕ) → ltb d n ≡ true → d < n
 below d n e = ⊎_elim (λ (h : d < n). h) (λ (h : n ≤ d). absurd (false≢true (sym (le-ltb d n h) ∙ e))) (cmp d n)
@@ -52,31 +45,31 @@ map-append {ℓ κ} : {A : Type ℓ} {B : Type κ} (f : A → B) (xs ys : List A
 map-append f [] ys = refl
 map-append f (x ∷ xs) ys = ap (λ l. f x ∷ l) (map-append f xs ys)
 
-module _ (reader : LeafReader) (places : ℕ) (st₀ : List ℕ) (depth doc_base : ℕ) (c₀ : TopScoreDocCollector) (heap₀ : List ℤ) where
+module _ (reader : LeafReader) (places : ℕ) (states₀ : List ℕ) (depth doc_base : ℕ) (c₀ : TopScoreDocCollector) (heap₀ : List ℤ) where
   abbrev n : ℕ
   n = reader.max_doc
 
-  abbrev E : Lent
-  E = lent_of reader
+  abbrev E : Lists
+  E = lists_of reader
 
   abbrev V : ℕ → Reads
   V = reads reader
 
   abbrev pub Held : Index → Scorer → ℕ → Type 0
-  Held ix s scores = RootHeld E reader.norms.now reader.live.now reader.inverses.now ix places s depth scores st₀
+  Held ix s scores = RootHeld E reader.norms.now reader.live.now reader.inverses.now ix places s depth scores states₀
 
   -- those that are collected before a window
   abbrev before : Index → Scorer → ℕ → List ScoreDoc
   before ix s base = map (numbered doc_base) (map (scored ix s) (list_below base (live_match ix s)))
 
-  pub record At (ix : Index) (s : Scorer) (scores : ℕ) (st : List ℕ) (c : TopScoreDocCollector) (heap : List ℤ) (base : ℕ) : Type 0 where
-    pub held : Windowed ix reader.ranges.now s depth scores st base base nowhere
+  pub record At (ix : Index) (s : Scorer) (scores : ℕ) (states : List ℕ) (c : TopScoreDocCollector) (heap : List ℤ) (base : ℕ) : Type 0 where
+    pub held : Windowed ix reader.ranges.now s depth scores states base base nowhere
     pub collected : (k t b : ℕ) (xs : List ScoreDoc) (start : List ℤ) → b ≤ doc_base → Collected k t b xs start c₀ heap₀ → Collected k t (doc_base + min base n) (xs ++ before ix s base) start c heap
 
   abbrev pub AllAt : List ℕ → TopScoreDocCollector → List ℤ → ℕ → Type 0
-  AllAt st c heap base = (ix : Index) (s : Scorer) (scores : ℕ) → Held ix s scores → At ix s scores st c heap base
+  AllAt states c heap base = (ix : Index) (s : Scorer) (scores : ℕ) → Held ix s scores → At ix s scores states c heap base
 
-  pub loop-start : AllAt st₀ c₀ heap₀ 0
+  pub loop-start : AllAt states₀ c₀ heap₀ 0
   unfolding list_below
   loop-start ix s scores H =
       record {
@@ -85,18 +78,18 @@ module _ (reader : LeafReader) (places : ℕ) (st₀ : List ℕ) (depth doc_base
       }
 
   -- the words still hold the tree
-  pub loop-end : (st : List ℕ) (c : TopScoreDocCollector) (heap : List ℤ) (base : ℕ) → AllAt st c heap base → base ≤ no_more_docs → (ix : Index) (s : Scorer) (scores : ℕ) → Held ix s scores → Ok ix reader.ranges.now s depth scores st no_more_docs
-  loop-end st c heap base I top ix s scores H =
-      ok-mono ix reader.ranges.now s depth scores st base no_more_docs top (windowed-ok ix reader.ranges.now s depth scores st base base nowhere (omega arith) (I ix s scores H).held)
+  pub loop-end : (states : List ℕ) (c : TopScoreDocCollector) (heap : List ℤ) (base : ℕ) → AllAt states c heap base → base ≤ no_more_docs → (ix : Index) (s : Scorer) (scores : ℕ) → Held ix s scores → Ok ix reader.ranges.now s depth scores states no_more_docs
+  loop-end states c heap base I top ix s scores H =
+      ok-mono ix reader.ranges.now s depth scores states base no_more_docs top (windowed-ok ix reader.ranges.now s depth scores states base base nowhere (omega arith) (I ix s scores H).held)
 
   live-is : (ix : Index) (s : Scorer) (d : ℕ) → d < ix.max_doc → live_match ix s d ≡ is_live ix d && matches ix s d
   unfolding live_match
   live-is ix s d l = ap (λ (b : Bool). b && (is_live ix d && matches ix s d)) (lt-ltb d ix.max_doc l)
 
   -- all windows are done
-  pub loop-done : (st : List ℕ) (c : TopScoreDocCollector) (heap : List ℤ) (base : ℕ) → AllAt st c heap base → n ≤ base → (ix : Index) (s : Scorer) (scores : ℕ) → Held ix s scores → Continued doc_base n (live_scored ix s) c₀ heap₀ c heap
+  pub loop-done : (states : List ℕ) (c : TopScoreDocCollector) (heap : List ℤ) (base : ℕ) → AllAt states c heap base → n ≤ base → (ix : Index) (s : Scorer) (scores : ℕ) → Held ix s scores → Continued doc_base n (live_scored ix s) c₀ heap₀ c heap
   unfolding live_scored
-  loop-done st c heap base I all ix s scores H =
+  loop-done states c heap base I all ix s scores H =
       let few = H.lends.documents in
       let same : list_below base (live_match ix s) ≡ list_below ix.max_doc (λ d. is_live ix d && matches ix s d) =
       list-skip (live_match ix s) ix.max_doc base (omega (arith, few, all)) (λ d a b. not-below ix s d a) ∙ list_same (live_match ix s) (λ d. is_live ix d && matches ix s d) ix.max_doc (λ d l. live-is ix s d l) in
@@ -107,7 +100,7 @@ module _ (reader : LeafReader) (places : ℕ) (st₀ : List ℕ) (depth doc_base
             (subst (λ (i : ℕ). Collected k t i (xs ++ before ix s base) start c heap) bound ((I ix s scores H).collected k t b xs start l p));
       }
 
-  module _ (st : List ℕ) (c : TopScoreDocCollector) (heap : List ℤ) (base : ℕ) (I : AllAt st c heap base) (inside : base < n) where
+  module _ (states : List ℕ) (c : TopScoreDocCollector) (heap : List ℤ) (base : ℕ) (I : AllAt states c heap base) (inside : base < n) where
     module _ (ix : Index) (s : Scorer) (scores : ℕ) (H : Held ix s scores) where
       pub window-small : base + 64 ≤ no_more_docs
       window-small = omega (arith, H.lends.documents, H.lends.accepted.documents)
@@ -115,21 +108,21 @@ module _ (reader : LeafReader) (places : ℕ) (st₀ : List ℕ) (depth doc_base
       pub window-live : 0 < length reader.live.now → n ≤ 64 * length reader.live.now
       window-live h = let d : n - 1 < ix.max_doc = omega (arith, H.lends.documents) in omega (arith, live-there ix reader.live.now (n - 1) H.lends.accepted H.live-are d h)
 
-      node-windowed : NodeWindowed E ix places s depth scores st base
+      node-windowed : NodeWindowed E ix places s depth scores states base
       node-windowed = record { lends = H.lends; sound = H.scorable.sound; few = H.scorable.few; held = (I ix s scores H).held }
 
-      module _ (a b want : ℕ) (room : min a b ≡ places) (live-bits : LiveBits reader.live.now base n want) where
+      module _ (starts other_starts want : ℕ) (room : min starts other_starts ≡ places) (live-bits : LiveBits reader.live.now base n want) where
         wanted : Wanted n base want
-        wanted p h e = below (base + p) n (and-left (ltb (base + p) n) (is_live (live_only reader.live.now) (base + p)) (sym (live-bits p h) ∙ e))
+        wanted p h e = below (base + p) n (and_parts (ltb (base + p) n) (is_live (live_only reader.live.now) (base + p)) (sym (live-bits p h) ∙ e)).0
 
-        rooms : RoomIn places a b
-        rooms = record { in-a = omega (arith, room); in_b = omega (arith, room) }
+        rooms : RoomIn places starts other_starts
+        rooms = record { in-starts = omega (arith, room); in-other = omega (arith, room) }
 
-        pub window-asks : BitsPre (E) a b st base want depth
+        pub window-asks : BitsPre (E) starts other_starts states base want depth
         window-asks = (window-small, (n, ix, places, s, scores, wanted, rooms, node-windowed))
 
-        module _ (a' b' : ℕ) (room' : min a' b' ≡ places) (found next : ℕ) (st' : List ℕ) (next-is : next ≡ get_or st' 22 0) (post : BitsPost (E) a b st base want depth found st') where
-          answer : Answers (matches ix s) base (places_of want) found (get_or st' 22 0) × Windowed ix reader.ranges.now s depth scores st' (base + 64) base (places_of want)
+        module _ (starts' other_starts' : ℕ) (room' : min starts' other_starts' ≡ places) (found next : ℕ) (states' : List ℕ) (next-is : next ≡ get_or states' 22 0) (post : BitsPost (E) starts other_starts states base want depth found states') where
+          answer : Answers (matches ix s) base (places_of want) found (get_or states' 22 0) × Windowed ix reader.ranges.now s depth scores states' (base + 64) base (places_of want)
           answer = post n wanted ix places s scores node-windowed
 
           pub window-next : next ≤ no_more_docs
@@ -144,25 +137,25 @@ module _ (reader : LeafReader) (places : ℕ) (st₀ : List ℕ) (depth doc_base
               ∙ and_assoc (ltb (base + p) ix.max_doc) (is_live ix (base + p)) (matches ix s (base + p))
 
           found-below : (p : ℕ) → p < 64 → bit p found ≡ true → base + p < n
-          found-below p h e = wanted p h (and-left (bit p want) (matches ix s (base + p)) (sym (answer.0.bits p h) ∙ e))
+          found-below p h e = wanted p h (and_parts (bit p want) (matches ix s (base + p)) (sym (answer.0.bits p h) ∙ e)).0
 
-          lent-window : WindowLent ix n (V base) places a' b' found
-          lent-window = record { lends = H.lends; norms-are = H.norms-are; room = record { in-a = omega (arith, room'); in_b = omega (arith, room') }; small = window-small; wanted = found-below }
+          lent-window : WindowLent ix n (V base) places starts' other_starts' found
+          lent-window = record { lends = H.lends; norms-are = H.norms-are; room = record { in-starts = omega (arith, room'); in-other = omega (arith, room') }; small = window-small; wanted = found-below }
 
-          asked : NodeAsked ix (V base) places s depth scores st' found 0
+          asked : NodeAsked ix (V base) places s depth scores states' found 0
           asked =
               record {
                 scorable = H.scorable;
                 few = omega (arith, H.scorable.few);
-                match = λ p h e. and-right (bit p want) (matches ix s (base + p)) (sym (answer.0.bits p h) ∙ e);
-                held = windowed-less ix reader.ranges.now s depth scores st' (base + 64) base (places_of want) (places_of found) (λ p h e. and-left (bit p want) (matches ix s (base + p)) (sym (answer.0.bits p h) ∙ e)) answer.1;
+                match = λ p h e. (and_parts (bit p want) (matches ix s (base + p)) (sym (answer.0.bits p h) ∙ e)).1;
+                held = windowed-less ix reader.ranges.now s depth scores states' (base + 64) base (places_of want) (places_of found) (λ p h e. (and_parts (bit p want) (matches ix s (base + p)) (sym (answer.0.bits p h) ∙ e)).0) answer.1;
               }
 
-          pub window-scores : doc_base + n ≤ no_more_docs → Ready doc_base c₀ heap₀ → WindowPre st' (V base) a' b' found depth doc_base c heap
+          pub window-scores : doc_base + n ≤ no_more_docs → CollectorReady doc_base c₀ heap₀ → WindowPre states' (V base) starts' other_starts' found depth doc_base c heap
           window-scores few R =
               let q = (I ix s scores H).collected (length heap₀) R.t R.b R.list R.start R.before R.collected in
               let bound : doc_base + min base n ≡ doc_base + base = omega (arith, inside) in
-              let ready : Ready (doc_base + base) c heap = record {
+              let ready : CollectorReady (doc_base + base) c heap = record {
                 t = R.t;
                 b = doc_base + min base n;
                 list = R.list ++ before ix s base;
@@ -172,7 +165,7 @@ module _ (reader : LeafReader) (places : ℕ) (st₀ : List ℕ) (depth doc_base
               } in
               (omega (arith, few, inside), (λ p h e. omega (arith, few, found-below p h e)), ready, (n, ix, places, s, scores, lent-window, asked))
 
-          module _ (c' : TopScoreDocCollector) (heap' : List ℤ) (st'' : List ℕ) (done : WindowPost st' (V base) a' b' found depth doc_base c heap c' heap' st'') (base' : ℕ) (go : NextWindow base next base') where
+          module _ (c' : TopScoreDocCollector) (heap' : List ℤ) (states'' : List ℕ) (done : WindowPost states' (V base) starts' other_starts' found depth doc_base c heap c' heap' states'') (base' : ℕ) (go : NextWindow base next base') where
             abbrev m : ℕ
             m = min 64 (n - base)
 
@@ -189,10 +182,10 @@ module _ (reader : LeafReader) (places : ℕ) (st₀ : List ℕ) (depth doc_base
                 ∙ sym (ap (map (numbered doc_base)) (map-append (scored ix s) (list_below base L) (map (λ p. base + p) (list_below 64 (λ p. L (base + p))))) ∙ map-append (numbered doc_base) (map (scored ix s) (list_below base L)) (map (scored ix s) (map (λ p. base + p) (list_below 64 (λ p. L (base + p))))))
                 ∙ ap (λ (l : List ℕ). map (numbered doc_base) (map (scored ix s) l)) (sym (list-split L base 64) ∙ sym gap)
 
-            window-done : At ix s scores st'' c' heap' base'
+            window-done : At ix s scores states'' c' heap' base'
             window-done =
                 record {
-                  held = windowed-forget ix reader.ranges.now s depth scores st'' (base + 64) (base + 64) nowhere base' go.after go.after (done n ix places s scores lent-window asked).1;
+                  held = windowed-forget ix reader.ranges.now s depth scores states'' (base + 64) (base + 64) nowhere base' go.after go.after (done n ix places s scores lent-window asked).1;
                   collected = λ k t b xs start l p.
                       let q = subst (λ (i : ℕ). Collected k t i (xs ++ before ix s base) start c heap) (omega (arith, inside)) ((I ix s scores H).collected k t b xs start l p) in
                       let r = collected-window.continued k t (doc_base + base) (xs ++ before ix s base) start (omega arith) q in
@@ -202,6 +195,6 @@ module _ (reader : LeafReader) (places : ℕ) (st₀ : List ℕ) (depth doc_base
                 }
 
     -- one window more
-    pub loop-step : (a b want : ℕ) → min a b ≡ places → LiveBits reader.live.now base n want → (a' b' : ℕ) → min a' b' ≡ places → (found next : ℕ) (st' : List ℕ) → next ≡ get_or st' 22 0 → BitsPost (E) a b st base want depth found st' → (c' : TopScoreDocCollector) (heap' : List ℤ) (st'' : List ℕ) → WindowPost st' (V base) a' b' found depth doc_base c heap c' heap' st'' → (base' : ℕ) → NextWindow base next base' → AllAt st'' c' heap' base'
-    loop-step a b want room live-bits a' b' room' found next st' next-is post c' heap' st'' done base' go ix s scores H =
-        window-done ix s scores H a b want room live-bits a' b' room' found next st' next-is post c' heap' st'' done base' go
+    pub loop-step : (starts other_starts want : ℕ) → min starts other_starts ≡ places → LiveBits reader.live.now base n want → (starts' other_starts' : ℕ) → min starts' other_starts' ≡ places → (found next : ℕ) (states' : List ℕ) → next ≡ get_or states' 22 0 → BitsPost (E) starts other_starts states base want depth found states' → (c' : TopScoreDocCollector) (heap' : List ℤ) (states'' : List ℕ) → WindowPost states' (V base) starts' other_starts' found depth doc_base c heap c' heap' states'' → (base' : ℕ) → NextWindow base next base' → AllAt states'' c' heap' base'
+    loop-step starts other_starts want room live-bits starts' other_starts' room' found next states' next-is post c' heap' states'' done base' go ix s scores H =
+        window-done ix s scores H starts other_starts want room live-bits starts' other_starts' room' found next states' next-is post c' heap' states'' done base' go

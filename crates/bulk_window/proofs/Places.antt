@@ -1,5 +1,6 @@
 -- The loop over the set places of a window: those done are collected. Assumes nothing.
-use Rattle.std.proofs.Common.{◌≡◌, refl, sym, ap, subst, ◌∙◌, Bool, true, false, not, ◌&&◌, List, [], ◌∷◌, ◌++◌, map, ℕ, suc, ◌+◌, ◌≤◌, ◌<◌, eqb, eq-eqb, length, ℤ, arith, ⊎_elim}
+use Rattle.std.proofs.lemmas.Bool.{and_parts}
+use Rattle.std.proofs.Common.{◌≡◌, refl, sym, ap, subst, ◌∙◌, true, not, ◌&&◌, List, [], ◌∷◌, ◌++◌, map, ℕ, suc, ◌+◌, ◌≤◌, ◌<◌, eqb, eq-eqb, length, ℤ, arith, ⊎_elim}
 use Rattle.std.specs.Prelude.{Float}
 use mathlib.Core.List.{append_assoc, append-nil}
 use mathlib.Core.Bool.{false≢true}
@@ -9,7 +10,7 @@ use Rattle.meaning.specs.FullList.{ScoreDoc}
 use Rattle.bits.specs.Bit.{bit, set_bits, LowestBit}
 use Rattle.bits.proofs.Lists.{none-left}
 use Rattle.collector.specs.declared.TopScoreDocCollector.{TopScoreDocCollector}
-use Rattle.collector.specs.Collected.{Collected, Ready, Extended}
+use Rattle.collector.specs.Collected.{Collected, CollectorReady, Extended}
 use Rattle.collector.proofs.Beginning.{collected-later}
 use Rattle.bulk_scorer.specs.Collects.{numbered, Continued}
 use Rattle.bulk_window.specs.Windows.{placed, PlacesBelow}
@@ -24,14 +25,6 @@ map-append f (x ∷ xs) ys = ap (λ (l : List ScoreDoc). f x ∷ l) (map-append 
 numbered-append : (first : ℕ) (xs ys : List ScoreDoc) → map (numbered first) (xs ++ ys) ≡ map (numbered first) xs ++ map (numbered first) ys
 numbered-append first [] ys = refl
 numbered-append first (x ∷ xs) ys = ap (λ (l : List ScoreDoc). numbered first x ∷ l) (numbered-append first xs ys)
-
-and-left : (a b : Bool) → a && b ≡ true → a ≡ true
-and-left true b e = refl
-and-left false b e = absurd (false≢true e)
-
-and-right : (a b : Bool) → a && b ≡ true → b ≡ true
-and-right true b e = e
-and-right false b e = absurd (false≢true e)
 
 module _ (first : ℕ) (score : ℕ → Float) (places : ℕ) (c₀ : TopScoreDocCollector) (heap₀ : List ℤ) where
   -- ds are done, from on are those of `left`
@@ -55,7 +48,7 @@ module _ (first : ℕ) (score : ℕ → Float) (places : ℕ) (c₀ : TopScoreDo
       }
 
   module _ (left : ℕ) (c : TopScoreDocCollector) (heap : List ℤ) (i : PlacesAt left c heap) where
-    pub places-ready : Ready first c₀ heap₀ → (p : ℕ) → p < 64 → bit p left ≡ true → Ready (first + p) c heap
+    pub places-ready : CollectorReady first c₀ heap₀ → (p : ℕ) → p < 64 → bit p left ≡ true → CollectorReady (first + p) c heap
     places-ready R p h e =
         let q = i.collected (length heap₀) R.t R.b R.list R.start R.before R.collected in
         record {
@@ -76,8 +69,8 @@ module _ (first : ℕ) (score : ℕ → Float) (places : ℕ) (c₀ : TopScoreDo
           from = p + 1;
           whole = i.whole ∙ ap (λ (l : List ℕ). i.ds ++ l) listed ∙ sym (append_assoc i.ds (p ∷ []) (set_bits left'));
           part = λ q h e.
-              let old = and-left (bit q left) (not (eqb q p)) (sym (others q) ∙ e) in
-              (⊎_elim (λ (g : q < p). absurd (false≢true (sym (L.below q g) ∙ old))) (λ (g : p ≤ q). ⊎_elim (λ (s : p ≡ q). absurd (false≢true (sym (ap not (eq-eqb q p (sym s))) ∙ and-right (bit q left) (not (eqb q p)) (sym (others q) ∙ e)))) (λ (s : suc p ≤ q). omega (arith, s)) (eq-or-lt_of_le g)) (cmp q p), (i.part q h old).1);
+              let old = (and_parts (bit q left) (not (eqb q p)) (sym (others q) ∙ e)).0 in
+              (⊎_elim (λ (g : q < p). absurd (false≢true (sym (L.below q g) ∙ old))) (λ (g : p ≤ q). ⊎_elim (λ (s : p ≡ q). absurd (false≢true (sym (ap not (eq-eqb q p (sym s))) ∙ (and_parts (bit q left) (not (eqb q p)) (sym (others q) ∙ e)).1))) (λ (s : suc p ≤ q). omega (arith, s)) (eq-or-lt_of_le g)) (cmp q p), (i.part q h old).1);
           few = λ n h. let z = h p L.within here.1 in omega (arith, z);
           collected = λ k t b xs start l z.
               let more = x.extended k t (first + i.from) (xs ++ map (numbered first) (map (at score) i.ds)) start (omega (arith, here.0)) (i.collected k t b xs start l z) in

@@ -10,9 +10,9 @@ use Rattle.meaning.specs.Lent.{Index}
 use Rattle.meaning.specs.Ieee754.{zero_float}
 use Rattle.ieee754.specs.Nonneg.{sign_clear}
 use Rattle.index.specs.Accepted.{Accepted}
-use Rattle.weight.specs.ScorerTree.{Scorer, scorer_score}
-use Rattle.weight.specs.Sound.{Sound, nodes}
-use Rattle.weight.proofs.Weights.{Weighted}
+use Rattle.tree_weight.specs.ScorerTree.{Scorer, scorer_score}
+use Rattle.tree_weight.specs.Sound.{Sound, nodes}
+use Rattle.tree_weight.proofs.Weights.{Weighted}
 use Rattle.score.proofs.Small.{score-small}
 use Rattle.bulk_scorer.proofs.Sofar.{nonneg-clear}
 use Rattle.window_score.specs.Sums.{Zeros, NarrowedIs}

@@ -9,9 +9,9 @@ use Rattle.meaning.specs.Ieee754.{zero_float, narrow}
 use Rattle.ieee754.specs.Nonneg.{sign_clear}
 use Rattle.bits.specs.Bit.{bit, set_bits}
 use Rattle.collector.specs.declared.TopScoreDocCollector.{TopScoreDocCollector}
-use Rattle.collector.specs.Collected.{Ready}
+use Rattle.collector.specs.Collected.{CollectorReady}
 use Rattle.index.specs.Slices.{live_only}
-use Rattle.weight.specs.ScorerTree.{Scorer, scorer_score}
+use Rattle.tree_weight.specs.ScorerTree.{Scorer, scorer_score}
 use Rattle.bulk_scorer.specs.Collects.{Continued}
 use Rattle.window_words.specs.Windowed.{nowhere, Windowed}
 use Rattle.window_score.specs.Sums.{At}
@@ -23,9 +23,11 @@ LiveWord live base w = (p : ℕ) → p < 64 → bit p w ≡ is_live (live_only l
 
 -- the live documents of a window, of so many in all
 abbrev pub LiveBits : List ℕ → ℕ → ℕ → ℕ → Type 0
-LiveBits live base max_doc w = (p : ℕ) → p < 64 → bit p w ≡ (ltb (base + p) max_doc && is_live (live_only live) (base + p))
+LiveBits live base max_doc w =
+    (p : ℕ) → p < 64 → bit p w ≡ (ltb (base + p) max_doc && is_live (live_only live) (base + p))
 
--- where the next window begins, whose documents are those from r on: none before `next` and after this window is left out but those that are rounded down to
+-- where the next window begins, whose documents are those from r on: none before `next` and after this window is left
+-- out but those that are rounded down to
 pub record NextWindow (base next r : ℕ) : Type 0 where
   pub whole : r % 64 ≡ 0
   pub after : base + 64 ≤ r
@@ -42,7 +44,9 @@ PlacesBelow n places = (p : ℕ) → p < 64 → bit p places ≡ true → p < n
 -- the sums of a window, of which those at the set places are scores
 abbrev pub PlacesPre : ℕ → ℕ → List Float → TopScoreDocCollector → List ℤ → Type 0
 PlacesPre first places sums c heap =
-    (first < no_more_docs) × (length sums ≡ 64) × Ready first c heap × ((p : ℕ) → p < 64 → bit p places ≡ true → (first + p < no_more_docs) × T (sign_clear (narrow (get_or sums p nan))))
+    (first < no_more_docs) × (length sums ≡ 64) × CollectorReady first c heap
+    × ((p : ℕ) → p < 64 → bit p places ≡ true → (first + p < no_more_docs)
+    × T (sign_clear (narrow (get_or sums p nan))))
 
 abbrev pub PlacesPost : ℕ → ℕ → List Float → TopScoreDocCollector → List ℤ → TopScoreDocCollector → List ℤ → Type 0
 PlacesPost first places sums c heap c' heap' =
@@ -55,11 +59,20 @@ pub record Cleared (places : ℕ) (sums sums' : List Float) : Type 0 where
 
 -- a tree that was asked of the window and takes the documents at the places, before the collector
 abbrev pub WindowPre : List ℕ → Reads → ℕ → ℕ → ℕ → ℕ → ℕ → TopScoreDocCollector → List ℤ → Type 0
-WindowPre st V a b places depth doc_base c heap =
-    (doc_base + V.base < no_more_docs) × ((p : ℕ) → p < 64 → bit p places ≡ true → doc_base + V.base + p < no_more_docs) × Ready (doc_base + V.base) c heap × ((n : ℕ) × (ix : Index) × (rooms : ℕ) × (s : Scorer) × (scores : ℕ) × WindowLent ix n V rooms a b places × NodeAsked ix V rooms s depth scores st places 0)
+WindowPre states V starts other_starts places depth doc_base c heap =
+    (doc_base + V.base < no_more_docs)
+    × ((p : ℕ) → p < 64 → bit p places ≡ true → doc_base + V.base + p < no_more_docs)
+    × CollectorReady (doc_base + V.base) c heap
+    × ((n : ℕ) × (ix : Index) × (rooms : ℕ) × (s : Scorer) × (scores : ℕ)
+    × WindowLent ix n V rooms starts other_starts places
+    × NodeAsked ix V rooms s depth scores states places 0)
 
 -- its scores are collected, and its words can be asked of the next window
-abbrev pub WindowPost : List ℕ → Reads → ℕ → ℕ → ℕ → ℕ → ℕ → TopScoreDocCollector → List ℤ → TopScoreDocCollector → List ℤ → List ℕ → Type 0
-WindowPost st V a b places depth doc_base c heap c' heap' st' =
-    (n : ℕ) (ix : Index) (rooms : ℕ) (s : Scorer) (scores : ℕ) → WindowLent ix n V rooms a b places → NodeAsked ix V rooms s depth scores st places 0
-    → ((m : ℕ) → PlacesBelow m places → Continued (doc_base + V.base) m (placed (λ p. scorer_score ix s (V.base + p)) places) c heap c' heap') × Windowed ix V.ranges s depth scores st' (V.base + 64) (V.base + 64) nowhere
+abbrev pub WindowPost : List ℕ → Reads → ℕ → ℕ → ℕ → ℕ → ℕ → TopScoreDocCollector → List ℤ
+    → TopScoreDocCollector → List ℤ → List ℕ → Type 0
+WindowPost states V starts other_starts places depth doc_base c heap c' heap' states' =
+    (n : ℕ) (ix : Index) (rooms : ℕ) (s : Scorer) (scores : ℕ)
+    → WindowLent ix n V rooms starts other_starts places → NodeAsked ix V rooms s depth scores states places 0
+    → ((m : ℕ) → PlacesBelow m places
+    → Continued (doc_base + V.base) m (placed (λ p. scorer_score ix s (V.base + p)) places) c heap c' heap')
+    × Windowed ix V.ranges s depth scores states' (V.base + 64) (V.base + 64) nowhere

@@ -1,15 +1,16 @@
-// Any scorer tree in windows of 64 documents: which documents of a window it matches, then the scores of those, then each to the collector.
+// Any scorer tree in windows of 64 documents: the matches of a window, then their scores, then each to the collector.
 #![tactic(auto)]
 
 ghost use Rattle.std.specs.Prelude.{◌≡◌, ◌+◌, ◌*◌, ◌%◌, ◌≤◌, ◌<◌, length};
-ghost use Rattle.leaf_scorer.specs.Calls.{lent_of};
-ghost use Rattle.leaf_scorer.specs.Buffers.{places_in, SameBuffers};
+ghost use Rattle.scorer_leaf.specs.Calls.{lists_of};
+ghost use Rattle.scorer_leaf.specs.Buffers.{places_in, SameBuffers};
 ghost use Rattle.bulk_scorer.specs.Collects.{CollectPre, CollectPost, CollectEnd};
 ghost use Rattle.bulk_window.specs.Windows.{LiveWord, LiveBits, NextWindow, PlacesPre, PlacesPost, Cleared};
 
 use bits::SetBits;
 use collector::TopScoreDocCollector;
-use leaf_scorer::{LeafReader, PhraseBuffers};
+use scorer_leaf::{LeafReader, PhraseBuffers};
+use tree_weight::layout::WINDOW_NEXT;
 use window_bits::node_bits;
 use window_leaf::Window;
 use window_score::root::root_scores;
@@ -40,7 +41,7 @@ fn live_bits(live: &[u64], base: u32, max_doc: u32) -> u64
     word
 }
 
-// Where the next window begins: the one of the document before which nothing follows, where that is further.
+// Where the next window begins: it may skip to the window of `next`, a lower bound of the next match.
 fn next_window(base: u32, next: u32) -> u32
     requires { (base % 64 ≡ 0) × (base + 64 < 4294967296) }
     ensures { NextWindow base next result }
@@ -51,7 +52,8 @@ fn next_window(base: u32, next: u32) -> u32
     next - next % 64
 }
 
-// The documents at some places of a window to the collector, in rising order, each with its sum narrowed; these sums are 0 then.
+// The documents at some places of a window to the collector, ascending, each with its sum narrowed; these sums become
+// 0.
 fn collect_places(
     c: TopScoreDocCollector,
     heap: &mut [i64],
@@ -72,11 +74,12 @@ fn collect_places(
     c
 }
 
-// The live documents that the tree matches to the collector, numbered on from a document base. All sums are 0 between two windows.
-// Kept: seven parameters: no plainer by a struct lent with the collector, its heap and doc_base: the loops keep the collector by value
-// (`stepped`), so each would take it out and put it back.
+// The live documents that the tree matches to the collector, numbered on from a document base. All sums are 0 between
+// two windows.
+// Kept: seven parameters: no plainer by a struct lent with the collector, its heap and doc_base: the loops keep the
+// collector by value (`stepped`), so each would take it out and put it back.
 pub fn collect_windows(
-    st: &mut [u32],
+    states: &mut [u32],
     reader: &LeafReader<'_>,
     buffers: &mut PhraseBuffers<'_>,
     depth: u32,
@@ -84,9 +87,13 @@ pub fn collect_windows(
     c: TopScoreDocCollector,
     heap: &mut [i64],
 ) -> TopScoreDocCollector
-    requires { CollectPre (lent_of reader.now) reader.now.norms.now reader.now.live.now reader.now.inverses.now (places_in buffers.old) st.old depth doc_base c heap.old }
-    ensures collect_post { CollectPost (lent_of reader.now) reader.now.norms.now reader.now.live.now reader.now.inverses.now (places_in buffers.old) st.old depth doc_base c heap.old result heap.new }
-    ensures collect_end { CollectEnd (lent_of reader.now) reader.now.norms.now reader.now.live.now reader.now.inverses.now (places_in buffers.old) st.old depth st.new }
+    requires { CollectPre (lists_of reader.now) reader.now.norms.now reader.now.live.now
+        reader.now.inverses.now (places_in buffers.old) states.old depth doc_base c heap.old }
+    ensures collect_post { CollectPost (lists_of reader.now) reader.now.norms.now reader.now.live.now
+        reader.now.inverses.now (places_in buffers.old) states.old depth doc_base c heap.old result
+        heap.new }
+    ensures collect_end { CollectEnd (lists_of reader.now) reader.now.norms.now reader.now.live.now
+        reader.now.inverses.now (places_in buffers.old) states.old depth states.new }
     ensures same_buffers { SameBuffers buffers.old buffers.new }
 {
     let mut c = c;
@@ -99,10 +106,10 @@ pub fn collect_windows(
             reader: *reader,
             base,
         };
-        let places = node_bits(st, &window, buffers, want, depth);
-        let next = st[22];
+        let places = node_bits(states, &window, buffers, want, depth);
+        let next = states[WINDOW_NEXT];
         if places != 0 {
-            root_scores(st, &window, buffers, places, &mut sums, depth);
+            root_scores(states, &window, buffers, places, &mut sums, depth);
             c = collect_places(c, heap, doc_base + base, places, &mut sums);
         }
         base = next_window(base, next);

@@ -10,11 +10,11 @@ use lib.IntN.{ℤ}
 use lib.Ieee.{binary32, of_bits}
 use Rattle.meaning.specs.FullList.{ScoreDoc}
 use Rattle.meaning.specs.Hits.{descending, hits}
-use Rattle.meaning.specs.Entries.{written, top_docs}
+use Rattle.meaning.specs.Entries.{written}
 use Rattle.collector.specs.declared.TopScoreDocCollector.{TopScoreDocCollector}
 use Rattle.collector.specs.declared.TopDocs.{TopDocs}
 use Rattle.collector.specs.State.{competitive}
-use Rattle.collector.specs.Collected.{Collected, Ready, answer, numbers, Drawn}
+use Rattle.collector.specs.Collected.{Collected, CollectorReady, top_docs_of, Drawn}
 use Rattle.collector.proofs.Best.{length-descending}
 use Rattle.collector.proofs.Marks.{mark-few}
 use Rattle.collector.proofs.Lists.{all-below}
@@ -64,7 +64,7 @@ collected-later k t b b' list start c heap e s = record {
 }
 
 -- a list that was collected, over the heap's own length
-pub ready_at : (k t b : ℕ) (list : List ScoreDoc) (start : List ℤ) (c : TopScoreDocCollector) (heap : List ℤ) (doc : ℕ) → b ≤ doc → Collected k t b list start c heap → Ready doc c heap
+pub ready_at : (k t b : ℕ) (list : List ScoreDoc) (start : List ℤ) (c : TopScoreDocCollector) (heap : List ℤ) (doc : ℕ) → b ≤ doc → Collected k t b list start c heap → CollectorReady doc c heap
 ready_at k t b list start c heap doc e s = record {
   t = t;
   b = b;
@@ -75,17 +75,13 @@ ready_at k t b list start c heap doc e s = record {
 }
 
 -- ---- the answer
--- the answer has the numbers of document 01
-pub answer-numbers : (k t : ℕ) (list : List ScoreDoc) → numbers (answer k t list) ≡ top_docs k t list
-answer-numbers k t list = refl
-
 abbrev made : ℕ → ℕ → Bool → TopDocs
 made a b m = record { held = a; count = b; mark = m }
 
 pub drawn-of : (c : TopScoreDocCollector) (heap heap' : List ℤ) (end : ℕ) → Popped (take c.held heap) (drop c.held heap) heap' end → end ≤ 1 → Drawn c heap (record { held = c.held; count = c.total_hits; mark = c.hits_lower_bound }) heap'
 drawn-of c heap heap' end p h = record { drawn = λ k t b list start s. go k t b list start s }
   where
-    go : (k t b : ℕ) (list : List ScoreDoc) (start : List ℤ) → Collected k t b list start c heap → (made c.held c.total_hits c.hits_lower_bound ≡ answer k t list) × (heap' ≡ written (hits k list) start)
+    go : (k t b : ℕ) (list : List ScoreDoc) (start : List ℤ) → Collected k t b list start c heap → (made c.held c.total_hits c.hits_lower_bound ≡ top_docs_of k t list) × (heap' ≡ written (hits k list) start)
     go k t b list start s =
         let n : length (hits k list) ≡ c.held = ap length (sym s.best) ∙ length-descending (take c.held heap) ∙ length-take c.held heap ∙ omega (arith, s.held, s.places) in (
           ap (λ (i : ℕ). made i c.total_hits c.hits_lower_bound) (sym n)

@@ -47,7 +47,7 @@ clear-or-set b = elim (dec_lt b (2 ^ 31)) [
 sign_clear : (b : ℕ) → b < 2 ^ 31 → b / half ≡ 0
 sign_clear b h = omega arith
 
--- ---- an int whose 31 lower bits are turned over where it is negative
+-- ---- an int whose 31 lower bits are inverted where it is negative
 
 over : (n : ℕ) → n < 2 ^ 31 → bit_xor (full - suc n) 2147483647 ≡ full - suc (half - 1 - n)
 over n h =
@@ -88,9 +88,6 @@ flipped-bits (negsuc n) f = whole n f.sfits
     whole n h = omega arith
 
 -- ---- the join of the two halves
-pub code-clear : (n low : ℕ) → pos n *ℤ pos (2 ^ 32) +ℤ pos low ≡ pos (n * full + low)
-code-clear n low = refl
-
 pub code-negative : (m low : ℕ) → low < 2 ^ 32 → negsuc m *ℤ pos (2 ^ 32) +ℤ pos low ≡ negsuc (m * full + (4294967295 - low))
 code-negative m low h =
     ap (λ (k : ℕ). neg_ℤ (pos k) +ℤ pos low) (all m)

@@ -1,4 +1,4 @@
--- The plain mathematics of this crate's proofs, one idea a file, each after those that it uses.
+-- The laws of codes, of the heap and of the collector, each after those that it uses.
 pub mod Counts
 pub mod Sorted
 pub mod Heaps

@@ -17,7 +17,7 @@ use Rattle.meaning.specs.Hits.{code, to_score, hits}
 use Rattle.ieee754.specs.Nonneg.{sign_clear}
 use Rattle.ieee754.proofs.Patterns.{clear-number}
 use Rattle.collector.specs.Heap.{at}
-use Rattle.collector.specs.Collected.{Scored, AllScored, Listed}
+use Rattle.collector.specs.Collected.{ScoredHit, AllScored, Listed}
 use Rattle.collector.proofs.Counts.{count, Alike, in-head-or-tail, count-take, counted}
 use Rattle.collector.proofs.Sorted.{count-descending}
 use Rattle.collector.proofs.Best.{ranked, hits-is}
@@ -27,24 +27,24 @@ pub all-below : (b b' : ℕ) (list : List ScoreDoc) → b ≤ b' → AllScored b
 all-below b b' [] l s = tt
 all-below b b' (h ∷ hs) l s = (record { below = omega (arith, l, s.0.below); fits = s.0.fits; clear = s.0.clear }, all-below b b' hs l s.1)
 
-all-last : (b : ℕ) (list : List ScoreDoc) (h : ScoreDoc) → AllScored b list → Scored b h → AllScored b (list ++ (h ∷ []))
+all-last : (b : ℕ) (list : List ScoreDoc) (h : ScoreDoc) → AllScored b list → ScoredHit b h → AllScored b (list ++ (h ∷ []))
 all-last b [] h s t = (t, tt)
 all-last b (g ∷ gs) h s t = (s.0, all-last b gs h s.1 t)
 
 pub one-longer : (list : List ScoreDoc) (h : ScoreDoc) → length (list ++ (h ∷ [])) ≡ length list + 1
 one-longer list h = length-append list (h ∷ [])
 
-pub scored-new : (h : ScoreDoc) → T (fits binary32 h.score) → T (sign_clear h.score) → Scored (h.doc + 1) h
+pub scored-new : (h : ScoreDoc) → T (fits binary32 h.score) → T (sign_clear h.score) → ScoredHit (h.doc + 1) h
 scored-new h F p = record { below = omega arith; fits = F; clear = p }
 
-pub listed-extended : (b : ℕ) (list : List ScoreDoc) (h : ScoreDoc) → Listed b list → b ≤ h.doc → Scored (h.doc + 1) h → Listed (h.doc + 1) (list ++ (h ∷ []))
+pub listed-extended : (b : ℕ) (list : List ScoreDoc) (h : ScoreDoc) → Listed b list → b ≤ h.doc → ScoredHit (h.doc + 1) h → Listed (h.doc + 1) (list ++ (h ∷ []))
 listed-extended b list h l e s =
     record { few = omega (arith, one-longer list h, l.few, e); each = all-last (h.doc + 1) list h (all-below b (h.doc + 1) list (omega (arith, e)) l.each) s }
 
 -- a code and the document with its score that it comes from
 pub record From (b : ℕ) (m : ℤ) : Type 0 where
   pub source : ScoreDoc
-  pub scored : Scored b source
+  pub scored : ScoredHit b source
   pub is : m ≡ code source
 
 from_list : (b : ℕ) (m : ℤ) (list : List ScoreDoc) → AllScored b list → 0 < count m (map code list) → From b m

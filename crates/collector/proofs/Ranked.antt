@@ -17,7 +17,7 @@ use Rattle.meaning.specs.FullList.{ScoreDoc}
 use Rattle.meaning.specs.Hits.{code, to_doc, to_score}
 use Rattle.ieee754.specs.Nonneg.{sign_clear}
 use Rattle.ieee754.proofs.Patterns.{clear-bits, clear-lt, clear-le}
-use Rattle.collector.specs.Collected.{Scored}
+use Rattle.collector.specs.Collected.{ScoredHit}
 use Rattle.collector.proofs.Halves.{clear-or-set, sortable-clear, sortable-set, low-joined, high-joined}
 
 abbrev pub score_bits : ScoreDoc → ℕ
@@ -58,7 +58,7 @@ pub clear-code : (h : ScoreDoc) → T (fits binary32 h.score) → T (sign_clear 
 unfolding code
 clear-code h F p = ap (λ (z : ℤ). z *ℤ pos (2 ^ 32) +ℤ pos (no_more_docs - h.doc)) (sortable-clear (score_bits h) (omega (arith, clear-bits h.score F p)))
 
-module _ (b b' : ℕ) (g h : ScoreDoc) (s : Scored b g) (t : Scored b' h) where
+module _ (b b' : ℕ) (g h : ScoreDoc) (s : ScoredHit b g) (t : ScoredHit b' h) where
   both-lt : score_bits g * 4294967296 + (no_more_docs - g.doc) < score_bits h * 4294967296 + (no_more_docs - h.doc) → code g <ℤ code h
   both-lt l =
       subst (λ (z : ℤ). z <ℤ code h) (sym (clear-code g s.fits s.clear))

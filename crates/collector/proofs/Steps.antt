@@ -7,9 +7,7 @@ use borrow.Author.Tests.{lt-ltb, le-ltb}
 use lib.Dec.{ltb}
 use lib.ListN.{length}
 use lib.IntN.{ℤ}
-use lib.Ieee.{Float, inf, lt, binary32, of_bits, nan_bits}
-use lib.Dec.{T}
-use mathlib.Core.Bool.{not}
+use lib.Ieee.{Float, inf, lt, binary32, of_bits}
 use Rattle.meaning.specs.Ieee754.{zero_float, next_up}
 use Rattle.meaning.specs.Hits.{to_score}
 use Rattle.collector.specs.declared.TopScoreDocCollector.{TopScoreDocCollector}
@@ -61,10 +59,6 @@ top-full held heap h = ap (λ (b : Bool). cond b (inf true) (to_score (at heap 0
 pub lowest : of_bits binary32 0xff80_0000 ≡ inf true
 unfolding of_bits
 lowest = refl
-
-pub lowest-number : T (not (nan_bits binary32 0xff80_0000))
-unfolding nan_bits
-lowest-number = tt
 
 pub zero_is : of_bits binary32 0 ≡ zero_float
 unfolding of_bits

@@ -1,4 +1,4 @@
--- An int whose 31 lower bits are turned over where it is negative. Assumes nothing: this is a definition.
+-- An int whose 31 lower bits are inverted where it is negative. Assumes nothing: this is a definition.
 use Rattle.std.specs.Prelude.{◌-◌, ◌^◌, ℤ, pos, negsuc}
 
 abbrev pub flipped : ℤ → ℤ

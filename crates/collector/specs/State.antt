@@ -18,16 +18,31 @@ competitive marked top = cond marked (next_up top) zero_float
 -- one more hit, with so many held and this top score
 abbrev pub counted : TopScoreDocCollector → ℕ → Float → TopScoreDocCollector
 counted c held top =
-    record { held = held; total_hits = c.total_hits + 1; total_hits_threshold = c.total_hits_threshold; top_score = top; min_competitive_score = c.min_competitive_score; hits_lower_bound = c.hits_lower_bound }
+    record {
+      held = held;
+      total_hits = c.total_hits + 1;
+      total_hits_threshold = c.total_hits_threshold;
+      top_score = top;
+      min_competitive_score = c.min_competitive_score;
+      hits_lower_bound = c.hits_lower_bound;
+    }
 
 -- past the threshold, the next score above the top score is the least competitive one, and the count a lower bound
 abbrev pub updated : TopScoreDocCollector → TopScoreDocCollector
 updated c =
     cond (ltb c.total_hits_threshold c.total_hits && lt c.min_competitive_score (next_up c.top_score))
-    (record { held = c.held; total_hits = c.total_hits; total_hits_threshold = c.total_hits_threshold; top_score = c.top_score; min_competitive_score = next_up c.top_score; hits_lower_bound = true })
+    (record {
+      held = c.held;
+      total_hits = c.total_hits;
+      total_hits_threshold = c.total_hits_threshold;
+      top_score = c.top_score;
+      min_competitive_score = next_up c.top_score;
+      hits_lower_bound = true;
+    })
     c
 
 -- a document that does not enter: only the first one past the threshold can change the mark
-abbrev pub passed : TopScoreDocCollector → TopScoreDocCollector
-passed c =
-    cond (eqb c.total_hits c.total_hits_threshold) (updated (counted c c.held c.top_score)) (counted c c.held c.top_score)
+abbrev pub not_entered : TopScoreDocCollector → TopScoreDocCollector
+not_entered c =
+    cond (eqb c.total_hits c.total_hits_threshold) (updated (counted c c.held c.top_score))
+    (counted c c.held c.top_score)

@@ -1,4 +1,4 @@
-// A score and a document as one i64 code: the score's sortable bits above 2147483647 - document.
+// A score and a document as one i64 code: the score's sortable bits above NO_MORE_DOCS - document.
 ghost use Rattle.std.specs.Prelude.{◌≡◌, not, ◌≤◌, ◌^◌, T};
 ghost use Rattle.std.specs.Int.Signed.{shr_z};
 ghost use Rattle.std.specs.Float.{binary32};
@@ -8,7 +8,9 @@ ghost use Rattle.meaning.specs.Ieee754.{sortable_int, sortable_bits};
 ghost use Rattle.meaning.specs.Hits.{code, to_doc, to_score};
 ghost use Rattle.collector.specs.Flipped.{flipped};
 
-// A negative int has its 31 lower bits turned over, and by that once more its own.
+use index::postings::NO_MORE_DOCS;
+
+// Inverts the 31 lower bits of a negative int; twice, it gives the int back (Lucene's sortableFloatBits).
 fn flipped(i: i32) -> i32
     ensures { result ≡ flipped i }
 {
@@ -23,7 +25,7 @@ pub fn float_to_sortable_int(f: f32) -> i32
     flipped(f32::to_bits(f).cast_signed())
 }
 
-// The pattern that has a sortable int: the way back, and of every int.
+// The float bits of a sortable int: the inverse of `float_to_sortable_int`, but defined for every int.
 pub fn sortable_bits(i: i32) -> u32
     ensures { result ≡ sortable_bits i }
 {
@@ -44,7 +46,7 @@ pub fn encode(doc: u32, score: f32) -> i64
     requires doc_le_no_more_docs { doc ≤ no_more_docs }
     ensures { result ≡ code (record { doc = doc; score = score }) }
 {
-    (i64::from(float_to_sortable_int(score)) << 32) | i64::from(2147483647 - doc)
+    (i64::from(float_to_sortable_int(score)) << 32) | i64::from(NO_MORE_DOCS - doc)
 }
 
 // The bits of a code's score.
@@ -61,9 +63,9 @@ pub fn to_score(code: i64) -> f32
     f32::from_bits(score_bits(code))
 }
 
-// 0 where the lower word is no document's.
+// The document of a code; 0 where the lower word is no document's.
 pub fn to_doc(code: i64) -> u32
     ensures { result ≡ to_doc code }
 {
-    2147483647u32.saturating_sub((code & 0xffff_ffff) as u32)
+    NO_MORE_DOCS.saturating_sub((code & 0xffff_ffff) as u32)
 }

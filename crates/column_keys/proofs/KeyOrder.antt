@@ -1,4 +1,5 @@
--- Keys lie in the order of the values, the ends of a range become an interval of keys, and a value is tested against it. Assumes nothing.
+-- Keys lie in the order of the values, the ends of a range become an interval of keys, and a value is tested against
+-- it. Assumes nothing.
 use mathlib.Core.Path.{◌≡◌, refl, sym, ap, ◌∙◌}
 use mathlib.Core.Logic.{⊎_elim}
 use mathlib.Core.Bool.{Bool, true, false, not, cond, ◌&&◌, ◌||◌, and-true, false≢true}
@@ -44,7 +45,7 @@ pub i64_key-large : (a : ℕ) → 2 ^ 63 ≤ a → i64_key a ≡ a - 2 ^ 63
 unfolding i64_key
 i64_key-large a h = rw (le-ltb a (2 ^ 63) h)
 
--- the sign bit turned over
+-- the sign bit inverted
 pub xor-sign : (a : ℕ) → a < 2 ^ 64 → bit_xor a (2 ^ 63) ≡ i64_key a
 xor-sign a f =
     ⊎_elim

@@ -1,3 +1,3 @@
--- The laws that the proofs of this crate and of those above it cite.
+-- Keys lie in the order of the values, and a range is an interval of keys.
 pub mod Tests
 pub mod KeyOrder

@@ -1,4 +1,4 @@
--- Tests of numbers whose facts go together. Assumes nothing.
+-- Two comparisons of numbers that hold together or fail together have the same Bool. Assumes nothing.
 use mathlib.Core.Path.{◌≡◌, sym, ◌∙◌}
 use mathlib.Core.Logic.{inl, inr}
 use mathlib.Core.Bool.{not}

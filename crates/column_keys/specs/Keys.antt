@@ -1,8 +1,10 @@
--- Values of a column as numbers in their order, and the ends of a range among them. Assumes nothing: these are definitions.
+-- Values of a column as numbers in their order, and the ends of a range among them.
+-- Assumes nothing: these are definitions.
 use Rattle.std.specs.Prelude.{Bool, true, cond, ◌&&◌, ◌||◌, List, ℕ, ◌+◌, ◌-◌, ◌/◌, ◌%◌, ◌^◌, eqb, leb, ltb, get_or}
 use Rattle.meaning.specs.Lent.{joined}
 use Rattle.meaning.specs.Range.{end_good}
 use Rattle.ieee754.specs.TotalOrder.{total_key}
+use Rattle.index.specs.declared.columns.TheConstants.{LOW, HIGH}
 use Rattle.std.specs.declared.ops.Bound.{Bound}
 use Rattle.std.specs.declared.ops.Bound.TheVariants.{Included, Excluded, Unbounded}
 use Rattle.column_keys.specs.declared.column_type.ColumnType.{ColumnType}
@@ -36,7 +38,7 @@ end_of kind x = cond (eqb kind 0) Unbounded (cond (eqb kind 1) (Included x) (Exc
 
 -- ---- keys
 
--- the number in whose order i64 patterns lie: the sign bit turned over
+-- the key of an i64 pattern: the sign bit inverted
 unfoldable pub i64_key : ℕ → ℕ
 i64_key bits = cond (ltb bits (2 ^ 63)) (bits + 2 ^ 63) (bits - 2 ^ 63)
 
@@ -56,16 +58,19 @@ key_at_lower kind end k = cond (eqb kind 0) true (cond (eqb kind 1) (leb end k) 
 unfoldable pub key_at_upper : ℕ → ℕ → ℕ → Bool
 key_at_upper kind end k = cond (eqb kind 0) true (cond (eqb kind 1) (leb k end) (ltb k end))
 
--- the keys of a column's numbers: in an f64 column those from the key of −infinity to that of +infinity, in an i64 column all
+-- the keys of a column's numbers: in an f64 column those from the key of −infinity to that of +infinity,
+-- in an i64 column all
 unfoldable pub number_key : ℕ → ℕ → Bool
 number_key type k = eqb type 0 || between (total_key 0xfff0_0000_0000_0000) (total_key 0x7ff0_0000_0000_0000) k
 
 -- the keys that a range lets in: those of numbers, where no given end is NaN, within both ends
 abbrev pub range_key : ℕ → ℕ → ℕ → ℕ → ℕ → Bool
 range_key type kinds lower upper k =
-    number_key type k && end_good (kinds % 3) type lower && end_good (kinds / 3) type upper && key_at_lower (kinds % 3) (value_key type lower) k && key_at_upper (kinds / 3) (value_key type upper) k
+    number_key type k && end_good (kinds % 3) type lower && end_good (kinds / 3) type upper
+    && key_at_lower (kinds % 3) (value_key type lower) k && key_at_upper (kinds / 3) (value_key type upper) k
 
 -- the value whose three words stand at `at` is present and its key lies between the two
 unfoldable pub value_in : List ℕ → ℕ → ℕ → ℕ → ℕ → Bool
 value_in values at type from to =
-    eqb (get_or values at 0) 1 && between from to (value_key type (joined (get_or values (at + 1) 0) (get_or values (at + 2) 0)))
+    eqb (get_or values at 0) 1
+    && between from to (value_key type (joined (get_or values (at + LOW) 0) (get_or values (at + HIGH) 0)))

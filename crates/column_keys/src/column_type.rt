@@ -26,7 +26,7 @@ impl From<u32> for ColumnType {
     }
 }
 
-// The sign bit turned over: i64 patterns in their order as unsigned numbers.
+// Inverts the sign bit, so that i64 values compare as unsigned numbers.
 fn i64_key(bits: u64) -> u64
     ensures { result ≡ i64_key bits }
 {

@@ -22,7 +22,8 @@ impl Keys {
 
     // Two intervals have in common what begins at the larger start and ends at the smaller end.
     pub(crate) fn in_common(self, other: Keys) -> Keys
-        ensures { (k : ℕ) → between result.from result.to k ≡ (between self.from self.to k && between other.from other.to k) }
+        ensures { (k : ℕ) → between result.from result.to k
+            ≡ (between self.from self.to k && between other.from other.to k) }
     {
         Keys {
             from: self.from.max(other.from),
@@ -30,7 +31,7 @@ impl Keys {
         }
     }
 
-    // Both tests and no branch.
+    // Both tests, without a branch between them.
     pub fn contains(self, key: u64) -> bool
         ensures { result ≡ between self.from self.to key }
     {
@@ -51,7 +52,8 @@ pub(crate) fn end_of(kind: u32, bits: u64) -> Bound<u64>
 
 // The keys that a lower end lets in; above the largest key lies none.
 pub(crate) fn lower_keys(end: Bound<u64>) -> Keys
-    ensures { (k : ℕ) → k < 2 ^ 64 → between result.from result.to k ≡ key_at_lower (end_kind end) (end_value end) k }
+    ensures { (k : ℕ) → k < 2 ^ 64 → between result.from result.to k
+        ≡ key_at_lower (end_kind end) (end_value end) k }
 {
     match end {
         Bound::Included(key) => Keys {
@@ -70,7 +72,8 @@ pub(crate) fn lower_keys(end: Bound<u64>) -> Keys
 // The keys that an upper end lets in; below key 0 lies none.
 // Kept: no plainer as one function with the lower end's: each side has its own bound, step and limit.
 pub(crate) fn upper_keys(end: Bound<u64>) -> Keys
-    ensures { (k : ℕ) → k < 2 ^ 64 → between result.from result.to k ≡ key_at_upper (end_kind end) (end_value end) k }
+    ensures { (k : ℕ) → k < 2 ^ 64 → between result.from result.to k
+        ≡ key_at_upper (end_kind end) (end_value end) k }
 {
     match end {
         Bound::Included(key) => Keys {

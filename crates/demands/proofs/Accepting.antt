@@ -11,7 +11,7 @@ use Rattle.meaning.specs.CallRefusals.{Work}
 use Rattle.meaning.specs.Entries.{order_conditions, search_refusal, page_refusal}
 use Rattle.index.proofs.Refused.{Numbered}
 use Rattle.index.proofs.Accepted.{accepted}
-use Rattle.weight.specs.Measured.{Asks}
+use Rattle.tree_weight.specs.Measured.{AcceptedOrder}
 use Rattle.demands.specs.Demands.{Accepts}
 use Rattle.demands.proofs.Lists.{All}
 
@@ -35,7 +35,7 @@ none_first (c ∷ cs) ds e = go c.holds refl (none_first cs ds)
     go true g r = let z : c.number ≡ 0 = rw g at e in rw g z
     go false g r = let z : lowest (cs ++ ds) ≡ 0 = rw g at e in rw g (r z)
 
-pub accepts-asks : (ix : Index) (q : List ℕ) → Accepts ix q → Asks ix q
+pub accepts-asks : (ix : Index) (q : List ℕ) → Accepts ix q → AcceptedOrder ix q
 accepts-asks ix q a =
     let n = none-holds (order_conditions ix q) (lit< tt, (lit< tt, (lit< tt, (lit< tt, (lit< tt, (lit< tt, (lit< tt, (lit< tt, (lit< tt, (lit< tt, tt)))))))))) a in
     let from7 = n.1.1.1.1.1.1 in

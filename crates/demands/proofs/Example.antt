@@ -1,4 +1,5 @@
--- The premises of the theorems of pages and of Search can be met: three documents, the query that takes all, a refused call between two pages, and a search for two hits. Assumes nothing.
+-- The premises of the theorems of pages and of Search can be met: three documents, the query that takes all, a refused
+-- call between two pages, and a search for two hits. Assumes nothing.
 use mathlib.Core.Path.{◌≡◌, refl}
 use mathlib.Core.List.{List, [], ◌∷◌}
 use Prim.Native.Nat.{ℕ}
@@ -16,7 +17,7 @@ use Rattle.meaning.specs.Takes.{takes}
 use Rattle.meaning.specs.Pages.{first_doc, from_target, page}
 use Rattle.meaning.specs.Entries.{page_answer, page_refusal, search_refusal}
 use Rattle.meaning.specs.Lent.{Index}
-use Rattle.demands.specs.Demands.{Accepts, Call, refusal_of, answer_of, answered, Follow}
+use Rattle.demands.specs.Demands.{Accepts, Call, call_refusal, answer_of, answered_calls, Follow}
 
 abbrev three : Index
 three = record { max_doc = 3; fields = []; leaves = []; postings = []; positions = []; norms = []; live = []; columns = []; values = [] }
@@ -32,8 +33,8 @@ example-accepts : Accepts three everything
 unfolding wrong1 wrong2 wrong3 wrong4 wrong5 wrong6 wrong7 wrong_records wrong8 wrong_values wrong_kind unused_from wrong9 above_limit carries_above wrong10 decode_query decode decode_kind query_tree lowest any_below count_below lt of_bits
 example-accepts = refl
 
-example-follows : Follow three everything 0 (answered three everything (call 0 ∷ call 9 ∷ call 2 ∷ []))
-unfolding wrong1 wrong2 wrong3 wrong4 wrong5 wrong6 wrong7 wrong_records wrong8 wrong_values wrong_kind unused_from wrong9 above_limit carries_above wrong10 decode_query decode decode_kind query_tree lowest any_below lt of_bits page_refusal page_answer wrong12_page work_short states_needed starts_short starts_needed largest_below ranges_needed range_records count_below wrong13_page matches full_list list_below is_live takes from_target first_doc page Follow answered refusal_of answer_of
+example-follows : Follow three everything 0 (answered_calls three everything (call 0 ∷ call 9 ∷ call 2 ∷ []))
+unfolding wrong1 wrong2 wrong3 wrong4 wrong5 wrong6 wrong7 wrong_records wrong8 wrong_values wrong_kind unused_from wrong9 above_limit carries_above wrong10 decode_query decode decode_kind query_tree lowest any_below lt of_bits page_refusal page_answer wrong12_page work_short states_needed starts_short starts_needed largest_below ranges_needed range_records count_below wrong13_page matches full_list list_below is_live takes from_target first_doc page Follow answered_calls call_refusal answer_of
 example-follows = (refl, (refl, tt))
 
 example-search : search_refusal three everything 2 (record { states = node_state_words; starts = 0; other_starts = 0; ranges = 0 }) 2 ≡ 0

@@ -17,8 +17,9 @@ use Rattle.demands.proofs.Rankable.{full-rankable}
 use Rattle.demands.proofs.Accepting.{search-accepts}
 use Rattle.demands.proofs.Search.{answer-is, wrote-is, hits_by, MarkExactly, mark-exactly}
 
--- the list in another order, larger score first and lower document first among equals; what was written are the first k of it, or all
--- where there are fewer: the codes, and so the documents and the scores; the numbers answered are how many, the list's length and the mark
+-- the list in another order, larger score first and lower document first among equals; what was written are the first k
+-- of it, or all where there are fewer: the codes, and so the documents and the scores; the numbers answered are how
+-- many, the list's length and the mark
 pub record FirstHits (list : List ScoreDoc) (k t : ℕ) (wrote : List ℤ) (answer : List ℕ) : Type 0 where
   pub best : List ScoreDoc
   pub same : Perm best list
@@ -29,7 +30,8 @@ pub record FirstHits (list : List ScoreDoc) (k t : ℕ) (wrote : List ℤ) (answ
   pub accepted : get_or answer 0 1 ≡ 0
   pub numbers : MarkExactly k t (length list) answer
 
--- for every call of Search that is not refused, whatever it asks for and lends: of the live documents that the query takes, each with its score
+-- for every call of Search that is not refused, whatever it asks for and lends: of the live documents that the query
+-- takes, each with its score
 pub search-hits : (ix : Index) (q : List ℕ) (k t : ℕ) (w : Work) (buffer : List ℤ) → search_refusal ix q k w (length buffer) ≡ 0 → FirstHits (full_list ix (query_tree q)) k t (hits_by ix q k t w buffer) (search_answer ix q k t w (length buffer))
 search-hits ix q k t w buffer r =
     let h = hits-are (full_list ix (query_tree q)) (full-rankable ix q (search-accepts ix q k w (length buffer) r)) in

@@ -1,4 +1,5 @@
--- Which lists can be ranked: those that Pick takes, and the full list of every accepted index and query. Assumes nothing.
+-- Which lists can be ranked: those that Pick takes, and the full list of every accepted index and query.
+-- Assumes nothing.
 use mathlib.Core.Path.{◌≡◌, refl, sym, ap, ◌∙◌, subst}
 use mathlib.Core.Bool.{Bool, true, false, ◌&&◌, false≢true}
 use mathlib.Core.List.{List}
@@ -26,16 +27,16 @@ use Rattle.meaning.specs.Entries.{picked_list}
 use Rattle.meaning.proofs.Scorers.{no-scorer-takes-nothing}
 use Rattle.ieee754.specs.Nonneg.{sign_clear, AtMost}
 use Rattle.ieee754.proofs.Patterns.{nonneg-clear}
-use Rattle.collector.specs.Collected.{Scored}
+use Rattle.collector.specs.Collected.{ScoredHit}
 use Rattle.collector.proofs.Picked.{picked_at, picked-below, picked-clear, picked-rises, all-picked}
 use Rattle.query.proofs.Inverse.{both_true}
-use Rattle.weight.specs.ScorerTree.{Scorer, scorer_score}
-use Rattle.weight.specs.Weigh.{weigh}
-use Rattle.weight.specs.Sound.{Sound, nodes}
-use Rattle.weight.specs.Measured.{Asks}
-use Rattle.weight.proofs.Scores.{weigh-score}
-use Rattle.weight.proofs.Weights.{Weighted}
-use Rattle.weight.proofs.Queries.{query-nodes, query-sound, query-weighted}
+use Rattle.tree_weight.specs.ScorerTree.{Scorer, scorer_score}
+use Rattle.tree_weight.specs.Weigh.{weigh}
+use Rattle.tree_weight.specs.Sound.{Sound, nodes}
+use Rattle.tree_weight.specs.Measured.{AcceptedOrder}
+use Rattle.tree_weight.proofs.Scores.{weigh-score}
+use Rattle.tree_weight.proofs.Weights.{Weighted}
+use Rattle.tree_weight.proofs.Queries.{query-nodes, query-sound, query-weighted}
 use Rattle.demands.specs.Demands.{Accepts}
 use Rattle.demands.proofs.Lists.{All, all-last, all_listed}
 use Rattle.demands.proofs.Rising.{Rises, rises-below, rises-last, full-rises}
@@ -52,7 +53,7 @@ module _ (documents scores : List ℕ) (w : wrong14 documents scores ≡ false) 
     room : e ≤ no_more_docs
     next : i < length documents → e ≤ get_or documents i 0
     rises : Rises 0 e (list_to i (picked_at documents scores))
-    scored : All (Scored no_more_docs) (list_to i (picked_at documents scores))
+    scored : All (ScoredHit no_more_docs) (list_to i (picked_at documents scores))
 
   first : (i : ℕ) → i ≤ length documents → First i
   unfolding list_to
@@ -66,7 +67,7 @@ module _ (documents scores : List ℕ) (w : wrong14 documents scores ≡ false) 
         room = omega (arith, below);
         next = λ g. omega (arith, picked-rises documents scores w i (omega (arith, g)), ap (λ (n : ℕ). get_or documents n 0) (add-one i));
         rises = rises-last 0 f.e (list_to i (picked_at documents scores)) (picked_at documents scores i) (f.next here) f.rises;
-        scored = all-last (Scored no_more_docs) (list_to i (picked_at documents scores)) (picked_at documents scores i) f.scored
+        scored = all-last (ScoredHit no_more_docs) (list_to i (picked_at documents scores)) (picked_at documents scores i) f.scored
             (record { below = below; fits = of_bits-fits binary32 (get_or scores i 0); clear = picked-clear documents scores w i here });
       }
 
@@ -91,7 +92,7 @@ good-score ix q a d m = go (has_scorer ix t) refl
     s : Scorer
     s = weigh ix t one none
 
-    k : Asks ix q
+    k : AcceptedOrder ix q
     k = accepts-asks ix q a
 
     places : ℕ
@@ -116,6 +117,6 @@ full-rankable ix q a =
     let few = accepted-few ix q a in
     record {
       rises = rises-below 0 ix.max_doc no_more_docs (full_list ix (query_tree q)) (omega (arith, few)) (full-rises ix (query_tree q));
-      scored = all_listed (Scored no_more_docs) (λ d. record { doc = d; score = score ix (query_tree q) one d }) (λ d. is_live ix d && takes ix (query_tree q) d) ix.max_doc
+      scored = all_listed (ScoredHit no_more_docs) (λ d. record { doc = d; score = score ix (query_tree q) one d }) (λ d. is_live ix d && takes ix (query_tree q) d) ix.max_doc
           (λ d l m. let g = good-score ix q a d (both_true (is_live ix d) (takes ix (query_tree q) d) m).1 in record { below = omega (arith, few, l); fits = g.fits; clear = g.clear });
     }

@@ -1,4 +1,5 @@
--- Demand 3, of hits: they are the list's documents by larger score, and lower document first among equals. Assumes nothing.
+-- Demand 3, of hits: they are the list's documents by larger score, and lower document first among equals.
+-- Assumes nothing.
 use mathlib.Core.Path.{◌≡◌, refl, sym, ap, ◌∙◌}
 use mathlib.Core.Logic.{inl, inr}
 use mathlib.Core.Bool.{Bool, true, false, cond}
@@ -14,7 +15,7 @@ use lib.Signed.{lt_z, ◌≤ℤ◌, ◌<ℤ◌}
 use Rattle.meaning.specs.Limits.{no_more_docs}
 use Rattle.meaning.specs.FullList.{ScoreDoc}
 use Rattle.meaning.specs.Hits.{code, to_doc, to_score, insert_descending, descending, hits}
-use Rattle.collector.specs.Collected.{Scored}
+use Rattle.collector.specs.Collected.{ScoredHit}
 use Rattle.meaning.proofs.Signed.{≤ℤ-trans, <ℤ-≤ℤ, lt_yes, lt_no, before-or}
 use Rattle.collector.proofs.Best.{hits-is}
 use Rattle.collector.proofs.Ranked.{code-bits, code-later, code-order, to_doc-code, to_score-code}
@@ -25,7 +26,7 @@ use Rattle.demands.proofs.Rising.{Rises, rises-each}
 -- rising documents below NO_MORE_DOCS, each with an f32 score that is no NaN's and has a clear sign
 pub record Rankable (list : List ScoreDoc) : Type 0 where
   pub rises : Rises 0 no_more_docs list
-  pub scored : All (Scored no_more_docs) list
+  pub scored : All (ScoredHit no_more_docs) list
 
 -- ---- the list itself, put in the order of its codes
 unfoldable insert_ranked : ScoreDoc → List ScoreDoc → List ScoreDoc
@@ -80,15 +81,15 @@ abbrev Falls : List ScoreDoc → Type 0
 Falls [] = Unit
 Falls (x ∷ xs) = All (λ (y : ScoreDoc). code y <ℤ code x) xs × Falls xs
 
-module _ (h : ScoreDoc) (s : Scored no_more_docs h) where
-  later : (y : ScoreDoc) → Scored no_more_docs y → h.doc < y.doc → code y ≤ℤ code h → code y <ℤ code h
+module _ (h : ScoreDoc) (s : ScoredHit no_more_docs h) where
+  later : (y : ScoreDoc) → ScoredHit no_more_docs y → h.doc < y.doc → code y ≤ℤ code h → code y <ℤ code h
   later y t d l = code-later no_more_docs no_more_docs y h t s (code-bits no_more_docs no_more_docs y h t s l) d (omega (arith, t.below))
 
-  under : (x : ScoreDoc) → code x ≤ℤ code h → (xs : List ScoreDoc) → All (Scored no_more_docs) xs → All (λ (y : ScoreDoc). h.doc < y.doc) xs → All (λ (y : ScoreDoc). code y <ℤ code x) xs → All (λ (y : ScoreDoc). code y <ℤ code h) xs
+  under : (x : ScoreDoc) → code x ≤ℤ code h → (xs : List ScoreDoc) → All (ScoredHit no_more_docs) xs → All (λ (y : ScoreDoc). h.doc < y.doc) xs → All (λ (y : ScoreDoc). code y <ℤ code x) xs → All (λ (y : ScoreDoc). code y <ℤ code h) xs
   under x l [] t d f = tt
   under x l (y ∷ ys) t d f = (later y t.0 d.0 (≤ℤ-trans (<ℤ-≤ℤ f.0) l), under x l ys t.1 d.1 f.1)
 
-  falls-insert : (l : List ScoreDoc) → All (Scored no_more_docs) l → All (λ (y : ScoreDoc). h.doc < y.doc) l → Falls l → Falls (insert_ranked h l)
+  falls-insert : (l : List ScoreDoc) → All (ScoredHit no_more_docs) l → All (λ (y : ScoreDoc). h.doc < y.doc) l → Falls l → Falls (insert_ranked h l)
   unfolding insert_ranked
   falls-insert [] t d f = (tt, tt)
   falls-insert (x ∷ xs) t d f = elim (before-or (code h) (code x)) [
@@ -96,11 +97,11 @@ module _ (h : ScoreDoc) (s : Scored no_more_docs h) where
     | inr e ↦ rw e ((later x t.0 d.0 (lt_no (code h) (code x) e), under x (lt_no (code h) (code x) e) xs t.1 d.1 f.0), f)
   ]
 
-falls-sort : (b : ℕ) (l : List ScoreDoc) → Rises b no_more_docs l → All (Scored no_more_docs) l → Falls (sort_ranked l)
+falls-sort : (b : ℕ) (l : List ScoreDoc) → Rises b no_more_docs l → All (ScoredHit no_more_docs) l → Falls (sort_ranked l)
 unfolding sort_ranked
 falls-sort b [] r s = tt
 falls-sort b (h ∷ hs) r s =
-    falls-insert h s.0 (sort_ranked hs) (all-sort (Scored no_more_docs) hs s.1) (all-sort (λ (y : ScoreDoc). h.doc < y.doc) hs (rises-each (suc h.doc) no_more_docs hs r.1))
+    falls-insert h s.0 (sort_ranked hs) (all-sort (ScoredHit no_more_docs) hs s.1) (all-sort (λ (y : ScoreDoc). h.doc < y.doc) hs (rises-each (suc h.doc) no_more_docs hs r.1))
     (falls-sort (suc h.doc) hs r.1 s.1)
 
 falls_at : (l : List ScoreDoc) (d : ScoreDoc) → Falls l → (i j : ℕ) → i < j → j < length l → code (get_or l j d) <ℤ code (get_or l i d)
@@ -110,7 +111,7 @@ falls_at (x ∷ xs) d f zero (suc j) a b = all-at (λ (y : ScoreDoc). code y <�
 falls_at (x ∷ xs) d f (suc i) (suc j) a b = falls_at xs d f.1 i j (le_of_suc-le-suc a) (le_of_suc-le-suc b)
 
 -- ---- the theorem
-map-coded {ℓ} : {B : Type ℓ} (g : ℤ → B) (f : ScoreDoc → B) (l : List ScoreDoc) → All (Scored no_more_docs) l → ((h : ScoreDoc) → Scored no_more_docs h → g (code h) ≡ f h) → map g (map code l) ≡ map f l
+map-coded {ℓ} : {B : Type ℓ} (g : ℤ → B) (f : ScoreDoc → B) (l : List ScoreDoc) → All (ScoredHit no_more_docs) l → ((h : ScoreDoc) → ScoredHit no_more_docs h → g (code h) ≡ f h) → map g (map code l) ≡ map f l
 map-coded g f [] s e = refl
 map-coded {B} g f (h ∷ hs) s e = ap (λ (b : B). b ∷ map g (map code hs)) (e h s.0) ∙ ap (λ (l : List B). f h ∷ l) (map-coded g f hs s.1 e)
 
@@ -119,7 +120,8 @@ all_take P zero l a = tt
 all_take P (suc k) [] a = tt
 all_take P (suc k) (x ∷ xs) a = (a.0, all_take P k xs a.1)
 
--- the list in another order, by larger score and lower document first among equals; the hits are its first k, for every k
+-- the list in another order, by larger score and lower document first among equals; the hits are its first k, for every
+-- k
 pub record HitsAre (list : List ScoreDoc) : Type 0 where
   pub best : List ScoreDoc
   pub same : Perm best list
@@ -134,15 +136,15 @@ hits-are list r = record {
   same = ∣ perm-sort list ∣₁;
   order = before;
   codes = codes;
-  documents = λ k. ap (map to_doc) (codes k) ∙ map-coded to_doc (λ h. h.doc) (take k best) (all_take (Scored no_more_docs) k best each) (λ h s. to_doc-code h (omega (arith, s.below)));
-  scores = λ k. ap (map to_score) (codes k) ∙ map-coded to_score (λ h. h.score) (take k best) (all_take (Scored no_more_docs) k best each) (λ h s. to_score-code h s.fits);
+  documents = λ k. ap (map to_doc) (codes k) ∙ map-coded to_doc (λ h. h.doc) (take k best) (all_take (ScoredHit no_more_docs) k best each) (λ h s. to_doc-code h (omega (arith, s.below)));
+  scores = λ k. ap (map to_score) (codes k) ∙ map-coded to_score (λ h. h.score) (take k best) (all_take (ScoredHit no_more_docs) k best each) (λ h s. to_score-code h s.fits);
 }
   where
     best : List ScoreDoc
     best = sort_ranked list
 
-    each : All (Scored no_more_docs) best
-    each = all-sort (Scored no_more_docs) list r.scored
+    each : All (ScoredHit no_more_docs) best
+    each = all-sort (ScoredHit no_more_docs) list r.scored
 
     codes : (k : ℕ) → hits k list ≡ map code (take k best)
     codes k = hits-is k list ∙ ap (take k) (sym (codes-sort list)) ∙ sym (map-take code k best)
@@ -155,7 +157,7 @@ hits-are list r = record {
     before i j d a b =
         let g = get_or best i d in
         let h = get_or best j d in
-        let s = all-at (Scored no_more_docs) best i d each (omega (arith, a, b)) in
-        let t = all-at (Scored no_more_docs) best j d each b in
+        let s = all-at (ScoredHit no_more_docs) best i d each (omega (arith, a, b)) in
+        let t = all-at (ScoredHit no_more_docs) best j d each b in
         sym (code-order no_more_docs no_more_docs h g t s (omega (arith, t.below)) (omega (arith, s.below)))
         ∙ yes-is (lt_z (code h) (code g)) (falls_at best d (falls-sort 0 list r.rises r.scored) i j a b).lt

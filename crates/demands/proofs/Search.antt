@@ -63,7 +63,8 @@ search-grows ix q k k' t t' w w' buffer buffer' l r r' =
     ∙ hits-begin k k' list l
     ∙ sym (wrote-is ix q k t w buffer r)
 
--- ---- the numbers that Search answers: hits held, count, and the mark, which is 1 exactly where the count is above t and at least k
+-- ---- the numbers that Search answers: hits held, count, and the mark, which is 1 exactly where the count is above t
+-- and at least k
 pub record MarkExactly (k t n : ℕ) (answer : List ℕ) : Type 0 where
   pub held : get_or answer 1 0 ≡ min k n
   pub count : get_or answer 2 0 ≡ n

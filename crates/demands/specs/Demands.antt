@@ -1,4 +1,5 @@
--- Document 01's third demand: what is said of hits and of a list of pages, over the definitions alone. Assumes nothing: these are definitions.
+-- Document 01's third demand: what is said of hits and of a list of pages, over the definitions alone. Assumes nothing:
+-- these are definitions.
 use Rattle.std.specs.Prelude.{◌≡◌, Bool, cond, ◌&&◌, ◌||◌, List, [], ◌∷◌, ◌++◌, ℕ, ◌+◌, eqb, ltb, length, take, get_or}
 use Rattle.std.specs.Float.Ieee.{le, lt}
 use Rattle.meaning.specs.Lent.{Index}
@@ -18,8 +19,8 @@ pub record Call : Type 0 where
   pub scores : List ℕ
   pub work : Work
 
-unfoldable pub refusal_of : Index → List ℕ → Call → ℕ
-refusal_of ix q c = page_refusal ix q c.target c.work (length c.documents) (length c.scores)
+unfoldable pub call_refusal : Index → List ℕ → Call → ℕ
+call_refusal ix q c = page_refusal ix q c.target c.work (length c.documents) (length c.scores)
 
 -- the numbers that the call answers: its refusal, or 0, how many it wrote, and the next match
 unfoldable pub answer_of : Index → List ℕ → Call → List ℕ
@@ -40,9 +41,9 @@ unfoldable pub scores_by : Index → List ℕ → Call → List ℕ
 scores_by ix q c = take (given_by ix q c) (page_scores ix q c.target c.work c.documents c.scores)
 
 -- the calls that were not refused, in turn
-unfoldable pub answered : Index → List ℕ → List Call → List Call
-answered ix q [] = []
-answered ix q (c ∷ cs) = cond (eqb (refusal_of ix q c) 0) (c ∷ []) [] ++ answered ix q cs
+unfoldable pub answered_calls : Index → List ℕ → List Call → List Call
+answered_calls ix q [] = []
+answered_calls ix q (c ∷ cs) = cond (eqb (call_refusal ix q c) 0) (c ∷ []) [] ++ answered_calls ix q cs
 
 -- the first begins at s, and each later one at the next match that the one before it named
 unfoldable pub Follow : Index → List ℕ → ℕ → List Call → Type 0
@@ -58,9 +59,9 @@ unfoldable pub joined_scores : Index → List ℕ → List Call → List ℕ
 joined_scores ix q [] = []
 joined_scores ix q (c ∷ cs) = scores_by ix q c ++ joined_scores ix q cs
 
-unfoldable pub places_of : List Call → ℕ
-places_of [] = 0
-places_of (c ∷ cs) = length c.documents + places_of cs
+unfoldable pub places_of_calls : List Call → ℕ
+places_of_calls [] = 0
+places_of_calls (c ∷ cs) = length c.documents + places_of_calls cs
 
 -- the next match that the last of some calls named, and s where there is none
 unfoldable pub last_next : Index → List ℕ → ℕ → List Call → ℕ

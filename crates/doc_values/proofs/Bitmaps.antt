@@ -1,4 +1,5 @@
--- The numbers that have a property as the bits of words: a bit more, a word more, and how many there are. Assumes nothing.
+-- The numbers that have a property as the bits of words: a bit more, a word more, and how many there are.
+-- Assumes nothing.
 use mir.Val.{bool_byte}
 use Rattle.std.proofs.Common.{◌≡◌, refl, sym, ap, ap₂, ◌∙◌, Bool, true, false, cond, ◌&&◌, ◌||◌, ⊎_elim, List, [], ◌∷◌, ◌++◌, ℕ, zero, suc, ◌+◌, ◌-◌, ◌*◌, ◌/◌, ◌%◌, ◌^◌, ◌≤◌, ◌<◌, ltb, bit_or, length, get_or, set, length-append, arith, lt-ltb, le-ltb}
 use lib.Count.{ones}

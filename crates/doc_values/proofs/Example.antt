@@ -1,4 +1,5 @@
--- What `range` requires can be met: a column of three i64 values, −1, absent and 5, asked from −1, excluded, up to 5, included. Assumes nothing.
+-- What `range` requires can be met: a column of three i64 values, −1, absent and 5, asked from −1, excluded, up to 5,
+-- included. Assumes nothing.
 use mathlib.Core.Path.{◌≡◌, refl}
 use mathlib.Core.Bool.{false}
 use mathlib.Core.List.{[], ◌∷◌}

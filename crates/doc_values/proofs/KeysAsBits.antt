@@ -13,7 +13,7 @@ use Rattle.column_keys.specs.declared.column_type.ColumnType.TheVariants.{I64, F
 use Rattle.column_keys.proofs.Tests.{leb-as-leb}
 use Rattle.column_keys.proofs.KeyOrder.{i64_key-small, i64_key-large, value_key-i64, value_key-f64}
 
--- the interval begins at the lowest key with its sign turned over, and is as long as that of the keys
+-- the interval begins at the lowest key with its sign bit inverted, and is as long as that of the keys
 module _ (from to low x : ℕ) (order : from ≤ to) (fits : to < 2 ^ 64) (is : low ≡ (from + (2 ^ 64 - 2 ^ 63)) % 2 ^ 64) (small : x < 2 ^ 64) where
   -- how far the bits x lie from its first ones on
   abbrev ahead : ℕ
@@ -23,7 +23,7 @@ module _ (from to low x : ℕ) (order : from ≤ to) (fits : to < 2 ^ 64) (is : 
   beyond : (k : ℕ) → k < from → to - from < ahead → leb ahead (to - from) ≡ between from to k
   beyond k l h = lt-leb ahead (to - from) h ∙ sym (ap (λ (b : Bool). b && leb k to) (lt-leb from k l))
 
-  -- bits whose key is themselves with the sign turned over
+  -- bits whose key is themselves with the sign bit inverted
   turned : (k : ℕ) → k < 2 ^ 64 → x ≡ (k + 2 ^ 63) % 2 ^ 64 → leb ahead (to - from) ≡ between from to k
   turned k f t = ⊎_elim (λ l. beyond k l (omega (arith, is, t))) within (cmp k from)
     where

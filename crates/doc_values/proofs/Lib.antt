@@ -1,4 +1,4 @@
--- The laws that the proofs of this crate and of those above it cite.
+-- The documents of a range, as a list and as a bitmap.
 pub mod Lists
 pub mod Ranges
 pub mod KeysAsBits

@@ -1,4 +1,4 @@
--- The documents of a range: what the list depends on and what stands in it, and the column's scan that writes it. Assumes nothing.
+-- The documents of a range: what the list depends on, and the column's scan that writes it. Assumes nothing.
 use mathlib.Core.Path.{◌≡◌, refl, ap, ◌∙◌}
 use mathlib.Core.Bool.{Bool, true, false, not, ◌&&◌}
 use mathlib.Core.List.{List}
@@ -18,7 +18,7 @@ use Rattle.meaning.specs.QueryRefusals.{wrong_range}
 use Rattle.meaning.specs.Entries.{columns_only}
 use Rattle.column_keys.specs.Keys.{value_key, between, range_key, value_in}
 use Rattle.meaning.proofs.Tests.{or_left, or_right}
-use Rattle.meaning.proofs.Below.{list_length, list_same, listed_at, listed-ascends, listed_has, listed-exactly}
+use Rattle.meaning.proofs.Below.{list_same}
 use Rattle.column_keys.proofs.KeyOrder.{value_key-fits, number-by-key, lower-by-key, upper-by-key}
 
 -- ---- the list depends on N, the columns and the values alone, and so do the tests that allow it
@@ -45,32 +45,6 @@ module _ (ix : Index) where
   pub wrong_range-of-columns : (r : NumericRange) → wrong_range ix r ≡ wrong_range columns_of r
   unfolding wrong_range
   wrong_range-of-columns r = refl
-
--- ---- what stands in it
-module _ (ix : Index) (r : NumericRange) where
-  pub range_length : length (range_documents ix r) ≤ ix.max_doc
-  unfolding range_documents
-  range_length = list_length (in_range ix r) ix.max_doc
-
-  -- an entry is a document below N whose value lies in the range
-  pub range-entry : (i : ℕ) → i < length (range_documents ix r) → (get_or (range_documents ix r) i 0 < ix.max_doc) × (in_range ix r (get_or (range_documents ix r) i 0) ≡ true)
-  unfolding range_documents
-  range-entry i h = listed_at (in_range ix r) ix.max_doc i h
-
-  -- the entries ascend
-  pub range-ascends : (i j : ℕ) → i < j → j < length (range_documents ix r) → get_or (range_documents ix r) i 0 < get_or (range_documents ix r) j 0
-  unfolding range_documents
-  range-ascends i j g h = listed-ascends (in_range ix r) ix.max_doc i j g h
-
-  -- each such document has its place
-  pub range-has : (d : ℕ) → d < ix.max_doc → in_range ix r d ≡ true → (i : ℕ) × ((i < length (range_documents ix r)) × (get_or (range_documents ix r) i 0 ≡ d))
-  unfolding range_documents
-  range-has d h e = listed_has (in_range ix r) ix.max_doc d h e
-
-  -- a document stands in the list exactly where the range takes it
-  pub range-exactly : (d : ℕ) → any_below (length (range_documents ix r)) (λ i. eqb (get_or (range_documents ix r) i 0) d) ≡ (ltb d ix.max_doc && in_range ix r d)
-  unfolding range_documents
-  range-exactly d = listed-exactly (in_range ix r) ix.max_doc d
 
 -- ---- what an index and a range that are not refused allow
 module _ (ix : Index) (r : NumericRange) where

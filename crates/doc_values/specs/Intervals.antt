@@ -11,4 +11,5 @@ interval_has i bits = leb ((bits + (2 ^ 64 - i.low)) % 2 ^ 64) i.span
 
 -- an interval has the bits whose keys are those of a range
 abbrev pub SameBits : BitInterval → ColumnType → Keys → Type 0
-SameBits i type keys = (x : ℕ) → x < 2 ^ 64 → interval_has i x ≡ between keys.from keys.to (value_key (type_number type) x)
+SameBits i type keys =
+    (x : ℕ) → x < 2 ^ 64 → interval_has i x ≡ between keys.from keys.to (value_key (type_number type) x)

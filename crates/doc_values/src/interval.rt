@@ -1,11 +1,12 @@
-// The bits of the values that a range lets in, as one interval where that is plain: then no key is made of each value.
+// The bit patterns of the values in a range, where they are one interval: a value is then tested without making its
+// key.
 ghost use Rattle.std.specs.Prelude.{◌≡◌, IfSome};
 ghost use Rattle.doc_values.specs.Intervals.{interval_has, SameBits};
 
 use column_keys::column_type::ColumnType;
 use column_keys::keys::Keys;
 
-// The bits from `low` on, `span` more of them, modulo 2^64.
+// The patterns from `low` to `low` + `span`, modulo 2^64.
 #[derive(Clone, Copy)]
 pub(crate) struct BitInterval {
     pub(crate) low: u64,
@@ -13,8 +14,8 @@ pub(crate) struct BitInterval {
 }
 
 impl BitInterval {
-    // The bits that have these keys. f64 of clear sign are ordered as their bits, and an i64 key is the bits with the sign turned over, which
-    // is one interval modulo 2^64. None where nothing is let in, and none where f64 below zero are.
+    // The bits that have these keys: f64 of clear sign are ordered as their bits, and i64 keys, the sign turned over,
+    // are one interval modulo 2^64. None where nothing is let in, and none where f64 below zero are.
     pub(crate) fn of_keys(column_type: ColumnType, keys: Keys) -> Option<BitInterval>
         ensures { IfSome result (λ i. SameBits i column_type keys) }
     {

@@ -3,17 +3,17 @@
 #![tactic(auto)]
 
 use collector::{TopDocs, codes};
+use entry_range::Columns;
 use index::columns::NumericRange;
 use index::lent::Lent;
-use range_entry::Columns;
 use searcher::buffers::Buffers;
 use std::io;
 use std::io::Write;
+use tree_weight::NODE_STATE_WORDS;
 use vectors::file::first;
 use vectors::lists::EMPTY;
 use vectors::print::List;
 use walk::Listed;
-use weight::NODE_STATE_WORDS;
 
 // A query of one record, MatchAll.
 const MATCH_ALL: [u32; 9] = [5, 0, 0, 0, 0, 0, 0, 0, 0];
@@ -81,7 +81,7 @@ fn print_found(out: &mut impl Write, top: TopDocs, hits: &[i64]) -> io::Result<(
     writeln!(out)
 }
 
-// Node states and nothing else: MatchAll asks for no other work buffer.
+// Node states and nothing else: MatchAll needs no other work buffer.
 fn states_alone(states: &mut [u32]) -> Buffers<'_> {
     Buffers {
         states,
@@ -150,7 +150,7 @@ fn range(out: &mut impl Write, kinds: u32, lower: u64, upper: u64) -> io::Result
         lower,
         upper,
     };
-    match range_entry::range(&lent, range, &mut work, &mut output) {
+    match entry_range::range(&lent, range, &mut work, &mut output) {
         Err(refusal) => writeln!(out, "refused {refusal}"),
         Ok(n) => writeln!(out, "{}", List(first(&output, n as usize))),
     }
@@ -161,7 +161,7 @@ fn pick(out: &mut impl Write) -> io::Result<()> {
     let documents: [u32; 3] = [3, 5, 9];
     let scores: [u32; 3] = [0x3f80_0000, 0x4000_0000, 0x3f80_0000];
     let mut hits = [0i64; 2];
-    match pick_entry::pick(&documents, &scores, 2, 10, &mut hits) {
+    match entry_pick::pick(&documents, &scores, 2, 10, &mut hits) {
         Err(refusal) => writeln!(out, "refused {refusal}"),
         Ok(top) => print_found(out, top, &hits),
     }
@@ -179,7 +179,7 @@ fn place(out: &mut impl Write, query: &[u32], document: u32) -> io::Result<()> {
         positions: &POSITIONS,
         ..EMPTY
     };
-    match place_entry::place(&lent, query, 0, document, &mut starts, &mut other_starts) {
+    match entry_place::place(&lent, query, 0, document, &mut starts, &mut other_starts) {
         Err(refusal) => writeln!(out, "refused {refusal}"),
         Ok(None) => writeln!(out, "none"),
         Ok(Some(start)) => writeln!(out, "{start}"),

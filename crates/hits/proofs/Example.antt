@@ -1,4 +1,5 @@
--- Document 01's whole case as text, from the bytes of its files, with t 10 and with t 1; a k of 0, and a run.rec of another length. Computed. Assumes nothing.
+-- Document 01's whole case as text, from the bytes of its files, with t 10 and with t 1; a k of 0, and a run.rec of
+-- another length. Computed. Assumes nothing.
 use mathlib.Core.Path.{◌≡◌, refl}
 use mathlib.Core.List.{List, [], ◌∷◌, ◌++◌}
 use Prim.Native.Nat.{ℕ, ◌/◌, ◌%◌}
@@ -18,8 +19,8 @@ use Rattle.meaning.specs.IndexRefusals.{wrong1, wrong_field, wrong2, wrong3, wro
 use Rattle.meaning.specs.QueryRefusals.{wrong_records, wrong7, unused_from, wrong_range, other_field, wrong_kind, wrong_values, wrong8, above_limit, carries_above, wrong9, wrong10}
 use Rattle.meaning.specs.CallRefusals.{wrong11, states_needed, largest_in, starts_needed, range_records, ranges_needed, starts_short, work_short, wrong12_search}
 use Rattle.meaning.specs.Entries.{search_refusal}
-use Rattle.hits_text.specs.Text.{Files, files, words_of, longs_of, digits_to, decimal, hex_digits, hit_line, hit_lines, found_text, refused_text, taken}
-use Rattle.hits.specs.Text.{search_text, index_of, hits_text}
+use Rattle.hits_text.specs.Text.{Files, files, file_words, longs_of, digits_to, decimal, hex_digits, hit_line, hit_lines, found_text, refused_text, taken}
+use Rattle.hits.specs.Text.{search_text, files_index, hits_text}
 
 -- the bytes of words, the lowest first
 abbrev bytes_of : List ℕ → List ℕ
@@ -30,7 +31,8 @@ bytes_of (w ∷ ws) = w % 256 ∷ w / 256 % 256 ∷ w / 65536 % 256 ∷ w / 1677
 abbrev record_of : ℕ → ℕ → ℕ → ℕ → List ℕ
 record_of kind occurrence children value = kind ∷ occurrence ∷ children ∷ value ∷ 0 ∷ 0 ∷ 0 ∷ 0 ∷ 0 ∷ []
 
--- N 4; one field of average 1; leaf 0 in documents 0, 2, 3, leaf 1 in 2; Must ConstantScore(leaf 0), Should Boost 2 of ConstantScore(leaf 1)
+-- N 4; one field of average 1; leaf 0 in documents 0, 2, 3, leaf 1 in 2; Must ConstantScore(leaf 0), Should Boost 2 of
+-- ConstantScore(leaf 1)
 abbrev case_of : ℕ → ℕ → Files
 case_of k t =
     files (bytes_of (4 ∷ k ∷ t ∷ []))
@@ -65,7 +67,7 @@ table short_run = record { computed = hits_text (files [] [] [] [] [] [] [] [] [
 
 -- every row gives what it says
 pub table-holds : (e : Example) → (table e).computed ≡ (table e).expected
-unfolding table words_of longs_of digits_to decimal hex_digits hit_line hit_lines found_text refused_text search_text taken index_of hits_text to_bits round units odd size span climb add mul ieee_sum of_fields of_bits lt any_below count_below list_below last_below largest_below list_to is_live narrow sum_from narrowed_sum sortable_int sortable_bits has_required decode_clauses decode_child decode_phrase decode_kind decode decode_query query_tree required_hold some_prohibited shoulds_holding shoulds_needed boolean_takes takes has_scorer least costs_of sum disjunction_cost conjunction_cost cost insert_by_cost by_cost required_score must_scores should_scores group_score boolean_score score matches full_list code to_doc insert_descending descending hits mark lowest wrong1 wrong_field wrong2 wrong3 wrong_leaf wrong4 wrong_position wrong_positions wrong_posting wrong5 wrong_column wrong6 wrong_records wrong7 unused_from wrong_range other_field wrong_kind wrong_values wrong8 above_limit carries_above wrong9 wrong10 wrong11 states_needed largest_in starts_needed range_records ranges_needed starts_short work_short wrong12_search search_refusal
+unfolding table file_words longs_of digits_to decimal hex_digits hit_line hit_lines found_text refused_text search_text taken files_index hits_text to_bits round units odd size span climb add mul ieee_sum of_fields of_bits lt any_below count_below list_below last_below largest_below list_to is_live narrow sum_from narrowed_sum sortable_int sortable_bits has_required decode_clauses decode_child decode_phrase decode_kind decode decode_query query_tree required_hold some_prohibited shoulds_holding shoulds_needed boolean_takes takes has_scorer least costs_of sum disjunction_cost conjunction_cost cost insert_by_cost by_cost required_score must_scores should_scores group_score boolean_score score matches full_list code to_doc insert_descending descending hits mark lowest wrong1 wrong_field wrong2 wrong3 wrong_leaf wrong4 wrong_position wrong_positions wrong_posting wrong5 wrong_column wrong6 wrong_records wrong7 unused_from wrong_range other_field wrong_kind wrong_values wrong8 above_limit carries_above wrong9 wrong10 wrong11 states_needed largest_in starts_needed range_records ranges_needed starts_short work_short wrong12_search search_refusal
 table-holds whole_text = refl
 table-holds marked_text = refl
 table-holds no_k = refl

@@ -7,8 +7,8 @@ use lib.Dec.{eqb, leb}
 use lib.ListN.{length}
 use borrow.Author.Tests.{eqb-true, leb-true}
 use Rattle.index.specs.Slices.{lent}
-use Rattle.hits_text.specs.Text.{Files, files, whole, taken, word_at, words_of, longs_of, refused_text}
-use Rattle.hits.specs.Text.{index_of, search_text, hits_text}
+use Rattle.hits_text.specs.Text.{Files, files, whole, taken, word_at, file_words, longs_of, refused_text}
+use Rattle.hits.specs.Text.{files_index, search_text, hits_text}
 
 -- both of two, and each of ten
 both : (a b : Bool) → (a && b) ≡ true → (a ≡ true) × (b ≡ true)
@@ -62,15 +62,15 @@ sizes-of f e =
 -- ---- the text
 pub refused-files : (f : Files) → taken f ≡ false → refused_text 0 ≡ hits_text f
 unfolding hits_text
-refused-files f e = ap (λ (b : Bool). cond b (search_text (index_of f) (words_of f.query) (word_at f.run 1) (word_at f.run 2)) (refused_text 0)) (sym e)
+refused-files f e = ap (λ (b : Bool). cond b (search_text (files_index f) (file_words f.query) (word_at f.run 1) (word_at f.run 2)) (refused_text 0)) (sym e)
 
 module _ (run fields leaves postings positions norms live columns values query : List ℕ) where
   abbrev pub all-files : Files
   all-files = files run fields leaves postings positions norms live columns values query
 
   -- the words that were read of them
-  pub taken-files : taken all-files ≡ true → (n k t : ℕ) (fs ls ps qs vs cs xs os : List ℕ) → n ≡ word_at run 0 → k ≡ word_at run 1 → t ≡ word_at run 2 → fs ≡ words_of fields → ls ≡ words_of leaves → ps ≡ words_of postings → qs ≡ words_of positions → vs ≡ longs_of live → cs ≡ words_of columns → xs ≡ words_of values → os ≡ words_of query → search_text (lent n fs ls ps qs norms vs cs xs) os k t ≡ hits_text all-files
-  unfolding hits_text index_of
+  pub taken-files : taken all-files ≡ true → (n k t : ℕ) (fs ls ps qs vs cs xs os : List ℕ) → n ≡ word_at run 0 → k ≡ word_at run 1 → t ≡ word_at run 2 → fs ≡ file_words fields → ls ≡ file_words leaves → ps ≡ file_words postings → qs ≡ file_words positions → vs ≡ longs_of live → cs ≡ file_words columns → xs ≡ file_words values → os ≡ file_words query → search_text (lent n fs ls ps qs norms vs cs xs) os k t ≡ hits_text all-files
+  unfolding hits_text files_index
   taken-files e n k t fs ls ps qs vs cs xs os en ek et e1 e2 e3 e4 e5 e6 e7 e8 =
       rw (en, ek, et, e1, e2, e3, e4, e5, e6, e7, e8)
-      (ap (λ (b : Bool). cond b (search_text (index_of all-files) (words_of query) (word_at run 1) (word_at run 2)) (refused_text 0)) (sym e))
+      (ap (λ (b : Bool). cond b (search_text (files_index all-files) (file_words query) (word_at run 1) (word_at run 2)) (refused_text 0)) (sym e))

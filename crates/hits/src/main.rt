@@ -1,5 +1,5 @@
-// The program of document 01: it reads the ten files in the folder where it is started, and prints the hits or the refusal.
-// What it prints for the bytes that it reads is proved of `report::report`; reading and writing are not.
+// The program of document 01: it reads the ten files in the folder where it is started, and prints the hits or the
+// refusal. What it prints for the bytes that it reads is proved of `report::report`; reading and writing are not.
 #![tactic(auto)]
 
 mod report;
@@ -10,11 +10,12 @@ use std::io::Write;
 use std::rt::Files;
 use vectors::file::{first, read_all};
 
-// A byte more than is taken, to tell a longer file.
+// One byte more than the largest file that is taken, so that a longer one shows.
 const ROOM: usize = MAX_BYTES + 1;
 
-// What was read of the file. One that is missing or unreadable counts as one that fills the buffer: both are refused alike.
-// Kept: no plainer as an Option: document 01 refuses a missing file as it does a longer one, and `taken` tests the length alone.
+// What was read of the file. One that is missing or unreadable counts as one that fills the buffer: both are refused.
+// Kept: no plainer as an Option: document 01 refuses a missing file as it does a longer one, and `taken` tests the
+// length alone.
 fn read_file<'a>(rt: &impl Files, name: &str, bytes: &'a mut [u8]) -> &'a [u8] {
     let number = match fs::open(rt, name) {
         Ok(mut file) => read_all(&mut file, bytes).unwrap_or(bytes.len()),
@@ -24,7 +25,8 @@ fn read_file<'a>(rt: &impl Files, name: &str, bytes: &'a mut [u8]) -> &'a [u8] {
 }
 
 fn main(rt: HostRuntime) -> std::io::Result<()> {
-    // Kept: tried one array of ten, lent in parts by a pattern, and the proof did not close: the borrow checker does not cover `main` then.
+    // Kept: tried one array of ten, lent in parts by a pattern, and the proof did not close: the borrow checker does
+    // not cover `main` then.
     let mut run = [0u8; ROOM];
     let mut fields = [0u8; ROOM];
     let mut leaves = [0u8; ROOM];

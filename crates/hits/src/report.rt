@@ -11,7 +11,7 @@ use hits_text::words::{read_longs, read_words, word_at};
 use index::lent::Lent;
 use query::MAX_RECORDS;
 use searcher::buffers::Buffers;
-use weight::NODE_STATE_WORDS;
+use tree_weight::NODE_STATE_WORDS;
 
 // As much as 1024 hits take, and more.
 type Text = ArrayVec<u8, 32768>;

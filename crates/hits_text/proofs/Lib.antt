@@ -1,4 +1,4 @@
--- Laws of the text that the program prints.
+-- The text that is printed: digits, lines, the lines of all hits, and words read from a file.
 pub mod Putting
 pub mod Filling
 pub mod Numbers

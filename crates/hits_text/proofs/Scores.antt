@@ -1,4 +1,5 @@
--- The line of a hit shows its document and the bits of its score, where the code is of a document and an f32 score. Assumes nothing.
+-- The line of a hit shows its document and the bits of its score, where the code is of a document and an f32 score.
+-- Assumes nothing.
 use mathlib.Core.Path.{◌≡◌, sym}
 use mathlib.Core.List.{[], ◌∷◌, ◌++◌}
 use Prim.Native.Nat.{◌≤◌}

@@ -1,4 +1,5 @@
--- Document 01, "BM25 and the hits" and "Sizes": the words of the files of `hits`, and its lines. Assumes nothing: these are definitions.
+-- Document 01, "BM25 and the hits" and "Sizes": the words of the files of `hits`, and its lines.
+-- Assumes nothing: these are definitions.
 use Rattle.std.specs.Prelude.{Bool, cond, ◌&&◌, List, [], ◌∷◌, ◌++◌, ℕ, zero, suc, ◌+◌, ◌*◌, ◌/◌, ◌%◌, ◌^◌, eqb, leb, ltb, length, get_or, ℤ}
 use Rattle.std.specs.Int.Signed.{shr_z}
 use Rattle.meaning.specs.Below.{list_to}
@@ -10,15 +11,16 @@ use Rattle.meaning.specs.Hits.{to_doc}
 -- "in files the words are little-endian": the i-th of 32 bits
 abbrev pub word_at : List ℕ → ℕ → ℕ
 word_at bytes i =
-    get_or bytes (4 * i) 0 + 256 * get_or bytes (4 * i + 1) 0 + 65536 * get_or bytes (4 * i + 2) 0 + 16777216 * get_or bytes (4 * i + 3) 0
+    get_or bytes (4 * i) 0 + 256 * get_or bytes (4 * i + 1) 0 + 65536 * get_or bytes (4 * i + 2) 0
+    + 16777216 * get_or bytes (4 * i + 3) 0
 
 -- the i-th of 64 bits
 abbrev pub long_at : List ℕ → ℕ → ℕ
 long_at bytes i = joined (word_at bytes (2 * i)) (word_at bytes (2 * i + 1))
 
 -- all whole words of a file
-unfoldable pub words_of : List ℕ → List ℕ
-words_of bytes = list_to (length bytes / 4) (word_at bytes)
+unfoldable pub file_words : List ℕ → List ℕ
+file_words bytes = list_to (length bytes / 4) (word_at bytes)
 
 -- all of "live.rec of 8 bytes"
 unfoldable pub longs_of : List ℕ → List ℕ
@@ -71,7 +73,8 @@ hit_lines (c ∷ cs) = hit_line c ++ hit_lines cs
 
 -- "prints `count`, the count, `+` when marked; then per hit .."
 unfoldable pub found_text : ℕ → Bool → List ℤ → List ℕ
-found_text count marked codes = count_word ++ (decimal count ++ (cond marked (43 ∷ 10 ∷ []) (10 ∷ []) ++ hit_lines codes))
+found_text count marked codes =
+    count_word ++ (decimal count ++ (cond marked (43 ∷ 10 ∷ []) (10 ∷ []) ++ hit_lines codes))
 
 -- "A refusal prints `refused` and its number alone"
 unfoldable pub refused_text : ℕ → List ℕ
@@ -94,13 +97,26 @@ pub record Files : Type 0 where
 -- the ten in document 01's order
 abbrev pub files : List ℕ → List ℕ → List ℕ → List ℕ → List ℕ → List ℕ → List ℕ → List ℕ → List ℕ → List ℕ → Files
 files run fields leaves postings positions norms live columns values query =
-    record { run = run; fields = fields; leaves = leaves; postings = postings; positions = positions; norms = norms; live = live; columns = columns; values = values; query = query }
+    record {
+      run = run;
+      fields = fields;
+      leaves = leaves;
+      postings = postings;
+      positions = positions;
+      norms = norms;
+      live = live;
+      columns = columns;
+      values = values;
+      query = query;
+    }
 
 -- "takes files up to 64 KiB", and of whole words of so many bytes
 abbrev pub whole : ℕ → List ℕ → Bool
 whole size bytes = leb (length bytes) 65536 && eqb (length bytes % size) 0
 
--- "a longer or missing one, one not of whole words (live.rec of 8 bytes, norms.rec free), or a run.rec of another length" is not taken
+-- "a longer or missing one, one not of whole words (live.rec of 8 bytes, norms.rec free),
+-- or a run.rec of another length" is not taken
 unfoldable pub taken : Files → Bool
 taken f =
-    eqb (length f.run) 12 && whole 4 f.fields && whole 4 f.leaves && whole 4 f.postings && whole 4 f.positions && whole 1 f.norms && whole 8 f.live && whole 4 f.columns && whole 4 f.values && whole 4 f.query
+    eqb (length f.run) 12 && whole 4 f.fields && whole 4 f.leaves && whole 4 f.postings && whole 4 f.positions
+    && whole 1 f.norms && whole 8 f.live && whole 4 f.columns && whole 4 f.values && whole 4 f.query

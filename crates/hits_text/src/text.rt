@@ -12,7 +12,8 @@ pub fn push_bytes<const N: usize>(text: &mut ArrayVec<u8, N>, bytes: &[u8])
     text.try_extend_from_slice(bytes).unwrap();
 }
 
-// Kept: tried `write!(text, "{n}")`: std says what it writes and not that it never fails, and the proof of `unwrap` did not close.
+// Kept: tried `write!(text, "{n}")`: std says what it writes and not that it never fails,
+// and the proof of `unwrap` did not close.
 pub fn push_decimal<const N: usize>(text: &mut ArrayVec<u8, N>, n: u64)
     requires { array_vec_len text.old + length (decimal n) ≤ N }
     ensures { text.new.items ≡ text.old.items ++ decimal n }

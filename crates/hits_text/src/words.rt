@@ -1,6 +1,6 @@
 // The words of a file's bytes.
 ghost use Rattle.std.specs.Prelude.{◌≡◌, ◌+◌, ◌*◌, ◌/◌, ◌≤◌, ◌<◌, length};
-ghost use Rattle.hits_text.specs.Text.{word_at, words_of, longs_of};
+ghost use Rattle.hits_text.specs.Text.{word_at, file_words, longs_of};
 
 // The i-th little-endian word of 32 bits.
 pub fn word_at(bytes: &[u8], i: usize) -> u32
@@ -12,11 +12,13 @@ pub fn word_at(bytes: &[u8], i: usize) -> u32
 }
 
 // All words of a file, in the front of the buffer.
-// Kept: no plainer as one with that of longs: `from_le_bytes` is in no trait, so that the one would be lent a closure for it.
-// Tried zip with `iter_mut`, here and below: nothing says at the loop's end what was written through it, and the proof did not close.
+// Kept: no plainer as one with that of longs: `from_le_bytes` is in no trait,
+// so that the one would be lent a closure for it.
+// Tried zip with `iter_mut`, here and below: nothing says at the loop's end what was written through it,
+// and the proof did not close.
 pub fn read_words<'a>(bytes: &[u8], words: &'a mut [u32]) -> &'a [u32]
     requires { length bytes.now / 4 ≤ length words.old }
-    ensures { result.now ≡ words_of bytes.now }
+    ensures { result.now ≡ file_words bytes.now }
 {
     let (chunks, _) = bytes.as_chunks::<4>();
     for (i, chunk) in chunks.iter().enumerate() {

@@ -1,4 +1,5 @@
--- Values that are finite, not negative, and at most a whole number: what rounding, the operations, narrowing and patterns make of them. Assumes nothing.
+-- Values that are finite, not negative, and at most a whole number: what rounding, the operations, narrowing and
+-- patterns make of them. Assumes nothing.
 use mathlib.Core.Path.{◌≡◌, refl, sym, ap, ◌∙◌, subst}
 use Prim.Native.Nat.{ℕ, ◌+◌, ◌*◌, ◌^◌, ◌≤◌, ◌<◌, zero-le}
 use native.Mathlib.Nat.{le_trans, le_of_eq, lt_of_le_of_lt, add-mul, mul-one, one-mul, zero-mul, mul_comm, mul_assoc, mul-mul-mul_comm, mul-le-mul, mul-le-mul_right, mul-pos, add-le-add}

@@ -1,4 +1,5 @@
--- The steps of IEEE 754's text (`narrow_in_steps`) give what `narrow` gives: for every value, whether or not binary64 holds it. Assumes nothing.
+-- The steps of IEEE 754's text (`narrow_in_steps`) give what `narrow` gives: for every value, whether or not binary64
+-- holds it. Assumes nothing.
 use mathlib.Core.Path.{◌≡◌, refl, sym, ap, ◌∙◌, subst}
 use mathlib.Core.Bool.{Bool, true, false, not, cond}
 use Prim.Native.Nat.{ℕ, zero, suc, ◌+◌, ◌-◌, ◌*◌, ◌/◌, ◌%◌, ◌^◌, ◌≤◌, ◌<◌, compare}
@@ -147,7 +148,8 @@ rounded-twice m = go (dropped m) refl
         sum : (q u m : ℕ) → q * u ≤ m → u ≤ m → suc q * u ≤ 2 * m
         sum q u m h k = omega arith
 
--- ---- what `round` does with m × 2^e: in units of 2^-149 the value is `scaled` / `down`, of whose whole part `cutoff` digits go
+-- ---- what `round` does with m × 2^e: in units of 2^-149 the value is `scaled` / `down`, of whose whole part `cutoff`
+-- digits go
 abbrev scaled : ℕ → ℤ → ℕ
 scaled m e = m * up e * 2 ^ 149
 

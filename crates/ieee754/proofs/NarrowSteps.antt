@@ -1,4 +1,5 @@
--- How `narrow` is worked out from a binary64 pattern whose sign is clear, by the three ranges of the pattern, and how the sign goes through. Assumes nothing.
+-- How `narrow` is worked out from a binary64 pattern whose sign is clear, by the three ranges of the pattern, and how
+-- the sign goes through. Assumes nothing.
 use mathlib.Core.Path.{◌≡◌, refl, sym, ap, ◌∙◌, subst}
 use mathlib.Core.Logic.{inl, inr}
 use Prim.Native.Nat.{ℕ, zero, suc, ◌+◌, ◌-◌, ◌*◌, ◌/◌, ◌%◌, ◌^◌, ◌≤◌, ◌<◌, zero-le, compare, Ordering}

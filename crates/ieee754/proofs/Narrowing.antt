@@ -1,4 +1,5 @@
--- What `narrow` gives: it rounds a value's fraction to binary32, leaves what fits binary32, and keeps the order and the sign. Assumes nothing.
+-- What `narrow` gives: it rounds a value's fraction to binary32, leaves what fits binary32, and keeps the order and the
+-- sign. Assumes nothing.
 use mathlib.Core.Path.{◌≡◌, refl, sym, ap, ◌∙◌, subst}
 use Prim.Native.Nat.{ℕ, zero, suc, ◌+◌, ◌*◌, ◌^◌, ◌<◌}
 use mathlib.Core.Bool.{Bool, true, false, not, cond, true≢false}

@@ -1,5 +1,5 @@
--- The floats that are finite and not negative, +0 included: such a value is its fraction `num` / `den`, and its bit pattern is a function of its size in the format's smallest units, so equal fractions are one value, and a value that fits comes back from `round`.
--- Assumes nothing.
+-- A float that is finite and not negative, +0 included, is the fraction `num` / `den`, and its bits are a function of
+-- its size: equal fractions are one value, and a value that fits comes back from `round`. Assumes nothing.
 use mathlib.Core.Path.{◌≡◌, refl, sym, ap, ◌∙◌, subst}
 use Prim.Native.Nat.{ℕ, zero, suc, ◌+◌, ◌-◌, ◌*◌, ◌/◌, ◌%◌, ◌^◌, ◌≤◌, ◌<◌}
 use native.Mathlib.Nat.{le_of_suc-le-suc, lt_of_lt_of_le, lt_of_not-le, lt_irrefl, zero-add, zero-mul, mul-one, mul_comm, mul_assoc, mul_right_comm, mul-lt-mul_of_pos_right, lt_of_mul-lt-mul_right}

@@ -5,6 +5,8 @@ use Prim.Native.Nat.{ℕ, zero, suc, ◌+◌, ◌-◌, ◌*◌, ◌/◌, ◌%◌
 use native.Mathlib.Nat.{le_refl, le_trans, le_of_eq, le_of_lt, lt_of_le_of_lt, lt_of_lt_of_le, lt_irrefl, not-le_of_lt, eq-or-lt_of_le, mul_right_comm, mul-le-mul_right, mul-div_cancel, le-div_iff_mul-le, add-le-add, suc-mul, two-pow-succ, mod-eq_of_lt}
 use native.Mathlib.Omega.{arith}
 use mathlib.Core.Bool.{Bool, true, false, not, ◌&&◌, ◌||◌, cond}
+use lib.IntN.{ℤ}
+use borrow.Author.Tests.{lt-ltb, le-ltb, lt-leb, le-leb}
 use lib.Dec.{T, leb, ltb, eqb, ltb→lt, lt→ltb, nltb→le, leb→le, le→leb, nleb→lt, eqb→eq, lit<, T_not, not_T}
 use lib.Pow.{pow-add, pow_pos, shr_mono, le_ones}
 use lib.Arith.{lt_of_le-ne}
@@ -12,7 +14,7 @@ use lib.Ieee.{Float, nan, inf, fin, Format, binary32, prec, emax, low, size, hid
 use lib.Ieee.Fits.{kept-lt, two, two-le_pos, eq→eqb}
 use lib.Ieee.Exact.{odd_sign}
 use lib.Ieee.Digits.{size-lt, size-le, size_reaches}
-use lib.Ieee.Bits.{is_true, is_false, of_bits-to_bits, to_bits-of_bits, nan_bits_is, nan_bits_above}
+use lib.Ieee.Bits.{is_false, of_bits-to_bits, to_bits-of_bits, nan_bits_is, nan_bits_above}
 use lib.Ieee.Nearest.{div_mono}
 use lib.Ieee.Positive.{num, den, den_pos}
 use Rattle.ieee754.specs.Nonneg.{nonneg, sign_clear}
@@ -158,7 +160,8 @@ le-bits f x y F G p q =
         let n = neither (ltb a b) (eqb a b) t in
         not_T (leb a b) (λ u. not-le_of_lt (above a b (nltb→le a b n.0) (λ (e : a ≡ b). T_not (eqb a b) n.1 (eq→eqb e))) (leb→le a b u)))
 
--- ---- plus infinity too: the values of binary32 whose sign is clear are in the order of their patterns, of which plus infinity's is the last
+-- ---- plus infinity too: the values of binary32 whose sign is clear are in the order of their patterns, of which plus
+-- infinity's is the last
 pub inf-pattern : to_bits binary32 (inf false) ≡ 0x7f80_0000
 unfolding to_bits
 inf-pattern = refl
@@ -170,49 +173,45 @@ clear-bits (inf false) F p = le_of_eq inf-pattern
 clear-bits (fin true m e) F p = absurd p
 clear-bits (fin false m e) F p = le_of_lt (bits-finite (fin false m e) F tt)
 
+-- each of two such values is plus infinity or finite
+clear_cases : (P : Float → Float → Type 0) → P (inf false) (inf false)
+    → ((n : ℕ) (d : ℤ) → T (fits binary32 (fin false n d)) → P (inf false) (fin false n d))
+    → ((m : ℕ) (e : ℤ) → T (fits binary32 (fin false m e)) → P (fin false m e) (inf false))
+    → ((m : ℕ) (e : ℤ) (n : ℕ) (d : ℤ) → T (fits binary32 (fin false m e)) → T (fits binary32 (fin false n d)) → P (fin false m e) (fin false n d))
+    → (x y : Float) → T (fits binary32 x) → T (fits binary32 y) → T (sign_clear x) → T (sign_clear y) → P x y
+clear_cases P a b c f nan y F G p q = absurd p
+clear_cases P a b c f (inf true) y F G p q = absurd p
+clear_cases P a b c f (fin true m e) y F G p q = absurd p
+clear_cases P a b c f (inf false) nan F G p q = absurd q
+clear_cases P a b c f (inf false) (inf true) F G p q = absurd q
+clear_cases P a b c f (inf false) (fin true n d) F G p q = absurd q
+clear_cases P a b c f (fin false m e) nan F G p q = absurd q
+clear_cases P a b c f (fin false m e) (inf true) F G p q = absurd q
+clear_cases P a b c f (fin false m e) (fin true n d) F G p q = absurd q
+clear_cases P a b c f (inf false) (inf false) F G p q = a
+clear_cases P a b c f (inf false) (fin false n d) F G p q = b n d G
+clear_cases P a b c f (fin false m e) (inf false) F G p q = c m e F
+clear_cases P a b c f (fin false m e) (fin false n d) F G p q = f m e n d F G
+
+-- the pattern of plus infinity is above that of a finite value
+finite_below : (m : ℕ) (e : ℤ) → T (fits binary32 (fin false m e)) → to_bits binary32 (fin false m e) < to_bits binary32 (inf false)
+finite_below m e F = lt_of_lt_of_le (bits-finite (fin false m e) F tt) (le_of_eq (sym inf-pattern))
+
 pub clear-lt : (x y : Float) → T (fits binary32 x) → T (fits binary32 y) → T (sign_clear x) → T (sign_clear y) → lt x y ≡ ltb (to_bits binary32 x) (to_bits binary32 y)
 unfolding lt
-clear-lt nan y F G p q = absurd p
-clear-lt (inf true) y F G p q = absurd p
-clear-lt (fin true m e) y F G p q = absurd p
-clear-lt (inf false) nan F G p q = absurd q
-clear-lt (inf false) (inf true) F G p q = absurd q
-clear-lt (inf false) (fin true n d) F G p q = absurd q
-clear-lt (fin false m e) nan F G p q = absurd q
-clear-lt (fin false m e) (inf true) F G p q = absurd q
-clear-lt (fin false m e) (fin true n d) F G p q = absurd q
-clear-lt (inf false) (inf false) F G p q = sym (ap (λ (z : ℕ). ltb z z) inf-pattern)
-clear-lt (inf false) (fin false n d) F G p q =
-    let y = fin false n d in
-    sym (is_false (ltb (to_bits binary32 (inf false)) (to_bits binary32 y))
-    (not_T (ltb (to_bits binary32 (inf false)) (to_bits binary32 y))
-    (λ t. not-le_of_lt (ltb→lt (to_bits binary32 (inf false)) (to_bits binary32 y) t) (le_trans (le_of_lt (bits-finite y G tt)) (le_of_eq (sym inf-pattern))))))
-clear-lt (fin false m e) (inf false) F G p q =
-    let x = fin false m e in
-    sym (is_true (ltb (to_bits binary32 x) (to_bits binary32 (inf false))) (lt→ltb (to_bits binary32 x) (to_bits binary32 (inf false)) (lt_of_lt_of_le (bits-finite x F tt) (le_of_eq (sym inf-pattern)))))
-clear-lt (fin false m e) (fin false n d) F G p q = lt-bits binary32 (fin false m e) (fin false n d) F G tt tt
+clear-lt =
+    clear_cases (λ x y. lt x y ≡ ltb (to_bits binary32 x) (to_bits binary32 y)) (sym (ap (λ (z : ℕ). ltb z z) inf-pattern))
+    (λ n d G. sym (le-ltb _ _ (le_of_lt (finite_below n d G))))
+    (λ m e F. sym (lt-ltb _ _ (finite_below m e F)))
+    (λ m e n d F G. lt-bits binary32 (fin false m e) (fin false n d) F G tt tt)
 
 pub clear-le : (x y : Float) → T (fits binary32 x) → T (fits binary32 y) → T (sign_clear x) → T (sign_clear y) → le x y ≡ leb (to_bits binary32 x) (to_bits binary32 y)
 unfolding le lt eq
-clear-le nan y F G p q = absurd p
-clear-le (inf true) y F G p q = absurd p
-clear-le (fin true m e) y F G p q = absurd p
-clear-le (inf false) nan F G p q = absurd q
-clear-le (inf false) (inf true) F G p q = absurd q
-clear-le (inf false) (fin true n d) F G p q = absurd q
-clear-le (fin false m e) nan F G p q = absurd q
-clear-le (fin false m e) (inf true) F G p q = absurd q
-clear-le (fin false m e) (fin true n d) F G p q = absurd q
-clear-le (inf false) (inf false) F G p q = sym (ap (λ (z : ℕ). leb z z) inf-pattern)
-clear-le (inf false) (fin false n d) F G p q =
-    let y = fin false n d in
-    sym (is_false (leb (to_bits binary32 (inf false)) (to_bits binary32 y))
-    (not_T (leb (to_bits binary32 (inf false)) (to_bits binary32 y))
-    (λ t. not-le_of_lt (bits-finite y G tt) (le_trans (le_of_eq (sym inf-pattern)) (leb→le (to_bits binary32 (inf false)) (to_bits binary32 y) t)))))
-clear-le (fin false m e) (inf false) F G p q =
-    let x = fin false m e in
-    sym (is_true (leb (to_bits binary32 x) (to_bits binary32 (inf false))) (le→leb (to_bits binary32 x) (to_bits binary32 (inf false)) (le_trans (le_of_lt (bits-finite x F tt)) (le_of_eq (sym inf-pattern)))))
-clear-le (fin false m e) (fin false n d) F G p q = le-bits binary32 (fin false m e) (fin false n d) F G tt tt
+clear-le =
+    clear_cases (λ x y. le x y ≡ leb (to_bits binary32 x) (to_bits binary32 y)) (sym (ap (λ (z : ℕ). leb z z) inf-pattern))
+    (λ n d G. sym (lt-leb _ _ (finite_below n d G)))
+    (λ m e F. sym (le-leb _ _ (le_of_lt (finite_below m e F))))
+    (λ m e n d F G. le-bits binary32 (fin false m e) (fin false n d) F G tt tt)
 
 pub nonneg-clear : (x : Float) → T (nonneg x) → T (sign_clear x)
 nonneg-clear nan p = absurd p

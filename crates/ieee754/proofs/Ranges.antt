@@ -1,14 +1,14 @@
--- Ranges of floats that are finite and not negative, and what an operation makes of them: its result lies between its results at the ends, if the upper of these is finite.
--- Assumes nothing.
+-- Ranges of floats that are finite and not negative, and what an operation makes of them: its result lies between its
+-- results at the ends, if the upper of these is finite. Assumes nothing.
 use mathlib.Core.Path.{◌≡◌, refl, sym, ap, ◌∙◌, subst}
 use mathlib.Core.Logic.{◌⊎◌, inl, inr}
 use Prim.Native.Nat.{ℕ, suc, ◌+◌, ◌-◌, ◌*◌, ◌^◌, ◌≤◌, ◌<◌}
-use native.Mathlib.Nat.{le_refl, le_trans, le_of_eq, le_of_lt, lt_of_lt_of_le, not-le_of_lt, add-mul, mul_comm, mul_assoc, mul_left_comm, mul-le-mul_right, mul-le-mul, mul-pos, mul-mul-mul_comm, add-le-add}
+use native.Mathlib.Nat.{le_refl, le_trans, le_of_eq, le_of_lt, lt_of_lt_of_le, not-le_of_lt, add_comm, add-mul, mul_comm, mul_assoc, mul_left_comm, mul-le-mul_right, mul-le-mul, mul-pos, mul-mul-mul_comm, add-le-add}
 use native.Mathlib.Omega.{arith}
 use mathlib.Core.Bool.{Bool, true, false, ◌&&◌, ◌||◌, cond}
 use lib.IntN.{ℤ}
 use lib.Dec.{T, ltb, eqb, ltb→lt, eqb→eq}
-use lib.Ieee.{Float, nan, inf, fin, Format, prec, emax, low, up, down, odd, units, round, sum, add, sub, mul, div, le}
+use lib.Ieee.{Float, nan, inf, fin, Format, binary64, prec, emax, low, up, down, odd, units, round, sum, add, sub, mul, div, le}
 use lib.Ieee.Fits.{and_l, round_is}
 use lib.Ieee.Exact.{odd_sign}
 use lib.Ieee.Order.{le_of_values, round_mono, kept, drop}
@@ -69,42 +69,46 @@ module _ (f : Format) (a b c d : ℕ) (B : 0 < b) (D : 0 < d) (h : a * d ≤ c *
   round-cross p = le→cross (round f false a b) (round f false c d) (round-nonneg p) p (round_mono f a b c d B D h)
 
 -- ---- the operations, by the operands' fractions
+-- both are finite and not negative
+both_finite : (P : Float → Float → Type 0) → ((m : ℕ) (e : ℤ) (n : ℕ) (d : ℤ) → P (fin false m e) (fin false n d))
+    → (x y : Float) → T (nonneg x) → T (nonneg y) → P x y
+both_finite P h nan y p q = absurd p
+both_finite P h (inf s) y p q = absurd p
+both_finite P h (fin true m e) y p q = absurd p
+both_finite P h (fin false m e) nan p q = absurd q
+both_finite P h (fin false m e) (inf t) p q = absurd q
+both_finite P h (fin false m e) (fin true n d) p q = absurd q
+both_finite P h (fin false m e) (fin false n d) p q = h m e n d
+
 pub add_is : (f : Format) (x y : Float) → T (nonneg x) → T (nonneg y) → add f x y ≡ round f false (num x * den y + num y * den x) (den x * den y)
 unfolding add sum
-add_is f nan y p q = absurd p
-add_is f (inf s) y p q = absurd p
-add_is f (fin true m e) y p q = absurd p
-add_is f (fin false m e) nan p q = absurd q
-add_is f (fin false m e) (inf t) p q = absurd q
-add_is f (fin false m e) (fin true n d) p q = absurd q
-add_is f (fin false m e) (fin false n d) p q = refl
+add_is f = both_finite (λ x y. add f x y ≡ round f false (num x * den y + num y * den x) (den x * den y)) (λ m e n d. refl)
 
 pub mul_is : (f : Format) (x y : Float) → T (nonneg x) → T (nonneg y) → mul f x y ≡ round f false (num x * num y) (den x * den y)
 unfolding mul
-mul_is f nan y p q = absurd p
-mul_is f (inf s) y p q = absurd p
-mul_is f (fin true m e) y p q = absurd p
-mul_is f (fin false m e) nan p q = absurd q
-mul_is f (fin false m e) (inf t) p q = absurd q
-mul_is f (fin false m e) (fin true n d) p q = absurd q
-mul_is f (fin false m e) (fin false n d) p q = refl
+mul_is f = both_finite (λ x y. mul f x y ≡ round f false (num x * num y) (den x * den y)) (λ m e n d. refl)
 
 pub div_is : (f : Format) (x y : Float) → T (nonneg x) → T (nonneg y) → 0 < num y → div f x y ≡ round f false (num x * den y) (num y * den x)
 unfolding div
-div_is f nan y p q h = absurd p
-div_is f (inf s) y p q h = absurd p
-div_is f (fin true m e) y p q h = absurd p
-div_is f (fin false m e) nan p q h = absurd q
-div_is f (fin false m e) (inf t) p q h = absurd q
-div_is f (fin false m e) (fin true n d) p q h = absurd q
-div_is f (fin false m e) (fin false n d) p q h = go (eqb n 0) (eqb→eq n 0)
+div_is f = both_finite (λ x y. 0 < num y → div f x y ≡ round f false (num x * den y) (num y * den x)) divided
   where
     none : (a : ℕ) → a ≡ 0 → 0 < a → ⊥
     none a e h = omega arith
 
-    go : (b : Bool) → (T b → n ≡ 0) → cond b (cond (eqb m 0) nan (inf false)) (round f false (m * up e * down d) (n * up d * down e)) ≡ round f false (m * up e * down d) (n * up d * down e)
-    go true z = absurd (none n (z tt) (first_pos n (up d) h))
-    go false z = refl
+    divided : (m : ℕ) (e : ℤ) (n : ℕ) (d : ℤ) → 0 < n * up d → div f (fin false m e) (fin false n d) ≡ round f false (m * up e * down d) (n * up d * down e)
+    divided m e n d h = go (eqb n 0) (eqb→eq n 0)
+      where
+        go : (b : Bool) → (T b → n ≡ 0) → cond b (cond (eqb m 0) nan (inf false)) (round f false (m * up e * down d) (n * up d * down e)) ≡ round f false (m * up e * down d) (n * up d * down e)
+        go true z = absurd (none n (z tt) (first_pos n (up d) h))
+        go false z = refl
+
+-- addition of such values is commutative
+pub add-comm : (x y : Float) → T (nonneg x) → T (nonneg y) → add binary64 x y ≡ add binary64 y x
+add-comm x y p q =
+    add_is binary64 x y p q
+    ∙ ap (λ (n : ℕ). round binary64 false n (den x * den y)) (add_comm (num x * den y) (num y * den x))
+    ∙ ap (λ (n : ℕ). round binary64 false (num y * den x + num x * den y) n) (mul_comm (den x) (den y))
+    ∙ sym (add_is binary64 y x q p)
 
 -- a sum or a product of two such values has the sign clear, if only as plus infinity
 pub add-clear : (f : Format) (x y : Float) → T (nonneg x) → T (nonneg y) → T (sign_clear (add f x y))

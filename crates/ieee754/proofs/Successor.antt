@@ -1,4 +1,5 @@
--- nextUp by the patterns: one more, one less where the sign is set, and 1 from −0; and that it is above its operand. Assumes nothing.
+-- nextUp by the patterns: one more, one less where the sign is set, and 1 from −0; and that it is above its operand.
+-- Assumes nothing.
 use mathlib.Core.Path.{◌≡◌, refl, sym, ap, ◌∙◌, subst}
 use Prim.Native.Nat.{ℕ, zero, suc, ◌+◌, ◌-◌, ◌*◌, ◌/◌, ◌%◌, ◌^◌, ◌≤◌, ◌<◌, zero-le, suc-le-suc}
 use native.Mathlib.Nat.{le_refl, le_trans, le_of_eq, not-le_of_lt, zero-mul, zero-div, le-add_right}

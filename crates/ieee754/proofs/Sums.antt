@@ -1,4 +1,5 @@
--- A sum in binary64 of values of at most M each is at most their number times M, and so it is once narrowed. Assumes nothing.
+-- A sum in binary64 of values of at most M each is at most their number times M, and so it is once narrowed.
+-- Assumes nothing.
 use mathlib.Core.Path.{◌≡◌, refl, sym, subst}
 use mathlib.Core.List.{List, [], ◌∷◌, ◌++◌}
 use Prim.Native.Nat.{ℕ, zero, suc, ◌+◌, ◌*◌, ◌^◌, ◌≤◌, ◌<◌, zero-le, suc-le-suc}

@@ -1,4 +1,5 @@
-// convertFormat from binary64 to binary32 (IEEE 754-2019, 5.4.2), to nearest, in the steps of the standard's text and in their order.
+// convertFormat from binary64 to binary32 (IEEE 754-2019, 5.4.2), to nearest,
+// in the steps of the standard's text and in their order.
 // Kept: a rule of the project: request 2026-04 asks that narrowing be written in these steps.
 ghost use Rattle.std.specs.Prelude.{◌≡◌, ◌+◌, ◌*◌, ◌/◌, ◌%◌, ◌<◌, ◌≤◌, ◌^◌, leb};
 ghost use Rattle.std.specs.Float.{binary64};
@@ -18,8 +19,8 @@ fn nearest(n: u64, u: u64) -> u64
     if above < below + q % 2 { q + 1 } else { q }
 }
 
-// 1. (4.3.1) A pattern rounded as if the exponent had no limits: 24 digits of its 53, the leading one not written, with the
-// exponent above them, so that a carry out of them is one more in it.
+// 1. (4.3.1) A pattern rounded as if the exponent had no limits: 24 digits of its 53, the leading one not written,
+// with the exponent above them, so that a carry out of them is one more in it.
 fn rounded(bits: u64) -> u64
     ensures { result + 2 ^ 23 ≡ bits / 2 ^ 52 * 2 ^ 23 + rounded (bits % 2 ^ 52 + 2 ^ 52) }
 {
@@ -33,7 +34,8 @@ fn overflows(pattern: u64) -> bool
     0x2_3f80_0000 <= pattern
 }
 
-// 3. (7.5) The subnormal case, from the value that is not rounded: of a pattern below 2^-126, the nearest multiple of 2^-149.
+// 3. (7.5) The subnormal case, from the value that is not rounded:
+// of a pattern below 2^-126, the nearest multiple of 2^-149.
 fn subnormal(bits: u64) -> f32
     requires { bits < 0x3810_0000_0000_0000 }
     ensures { result ≡ narrow_in_steps (of_bits binary64 bits) }
@@ -52,8 +54,8 @@ fn in_steps(bits: u64) -> f32
     requires { bits ≤ 2047 * 2 ^ 52 }
     ensures { result ≡ narrow_in_steps (of_bits binary64 bits) }
 {
-    // Below 2^-1022 a pattern has no leading digit, and the digits that are rounded here are not its own: 2 does not hold of them,
-    // and 3 reads the pattern.
+    // Below 2^-1022 a pattern has no leading digit, and the digits that are rounded here are not its own: 2 does not
+    // hold of them, and 3 reads the pattern.
     let pattern = rounded(bits);
     if overflows(pattern) {
         return f32::INFINITY;

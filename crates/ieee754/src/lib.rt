@@ -1,4 +1,5 @@
-// The IEEE 754 operations that scores and columns need: the order of patterns and narrowing, worked out from bits; the others by std.
+// The IEEE 754 operations that scores and columns need: the order of patterns and narrowing, worked out from bits;
+// the others by std.
 #![tactic(auto)]
 
 pub mod convert_format;
@@ -11,8 +12,9 @@ ghost use Rattle.ieee754.specs.TotalOrder.{total_key};
 
 use std::num;
 
-// A number in the order of the patterns: the negative ones turned over, below the positive ones.
-// Kept: no plainer by `f64::total_cmp`, here and below: it asks that neither is a NaN, which columns have, and a range needs the key itself.
+// A key whose order is totalOrder: negative patterns are inverted and lie below the positive ones.
+// Kept: no plainer by `f64::total_cmp`, here and below:
+// it asks that neither is a NaN, which columns have, and a range needs the key itself.
 pub fn total_key(bits: u64) -> u64
     ensures { result ≡ total_key bits }
 {
@@ -37,7 +39,8 @@ pub fn narrow(x: f64) -> f32
     convert_format::narrow_in_steps(x)
 }
 
-// A length as the nearest f32, for programs of vectors: the code's lengths are f32 values, and its frequencies at most 2^24.
+// A length as the nearest f32, for programs of vectors:
+// the code's lengths are f32 values, and its frequencies at most 2^24.
 pub fn length_to_f32(n: u32) -> f32
     ensures { result ≡ of_int binary32 (pos n) }
 {

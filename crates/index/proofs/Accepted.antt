@@ -12,7 +12,7 @@ use Rattle.meaning.specs.Below.{any_below, count_below}
 use Rattle.meaning.specs.Limits.{no_more_docs, max_columns, largest_frequency}
 use Rattle.meaning.specs.Lent.{Index, field_count, has_norms, has_positions, leaf_count, leaf_field, leaf_number, leaf_document, leaf_frequency, leaf_positions_index, leaf_position, column_count, column_type, value_present}
 use Rattle.meaning.specs.IndexRefusals.{not_whole, wrong1, wrong2, wrong3, wrong4, wrong5, wrong6, wrong_posting, wrong_positions, wrong_position, wrong_column}
-use Rattle.index.specs.Accepted.{Accepted, PostingOk, Ascending, ColumnOk}
+use Rattle.index.specs.Accepted.{Accepted, PostingOk, RunAscends, ColumnOk}
 use Rattle.index.specs.Refusal.{index_refusal}
 use Rattle.index.proofs.Refused.{not-1, not-2, not-3, not-4, not-5, not-6}
 use Rattle.meaning.proofs.Tests.{and_second, or_left, or_right, or-3, or-4}
@@ -104,7 +104,7 @@ module _ (ix : Index) (e : wrong5 ix ≡ false) where
   document-next l i m n =
       let a : ltb 0 (i + 1) ≡ true = lt-ltb 0 (i + 1) (omega arith) in let b : leb (leaf_document ix l (i + 1)) (leaf_document ix l (i + 1 - 1)) ≡ false = and_second (ltb 0 (i + 1)) (leb (leaf_document ix l (i + 1)) (leaf_document ix l (i + 1 - 1))) (words_right l (i + 1) m n).0.1 a in let k : leaf_document ix l (i + 1 - 1) < leaf_document ix l (i + 1) = leb-false _ _ b in omega (arith, ap (λ (m : ℕ). leaf_document ix l m) (add-sub_cancel i 1))
 
-  ascends : (l : ℕ) → l < leaf_count ix → Ascending ix l
+  ascends : (l : ℕ) → l < leaf_count ix → RunAscends ix l
   ascends l m = λ i j. rising (leaf_document ix l) (leaf_number ix l) (λ k. document-next l k m) i j
 
 -- 6

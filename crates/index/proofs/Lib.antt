@@ -1,4 +1,4 @@
--- What the proofs of several functions use, and the laws that the crates above cite.
+-- The checks 1 to 6 one by one, the lowest of them, and what is known of an index that passes: for the crates above.
 pub mod Below
 pub mod Chains
 pub mod Whole
@@ -9,3 +9,4 @@ pub mod Words
 pub mod Refused
 pub mod Accepted
 pub mod PostingAt
+pub mod WordPlaces

@@ -11,7 +11,7 @@ use borrow.Author.Tests.{eqb-true, eqb-false, eq-eqb, ne_eqb}
 use Rattle.meaning.specs.Below.{last_below}
 use Rattle.meaning.specs.Lent.{Index, leaf_number, leaf_document}
 use Rattle.meaning.specs.Postings.{posting_at}
-use Rattle.index.specs.Accepted.{Ascending}
+use Rattle.index.specs.Accepted.{RunAscends}
 use Rattle.meaning.proofs.Below.{last-or-below}
 
 same_some : (o : Option ℕ) (m n : ℕ) → o ≡ some m → o ≡ some n → m ≡ n
@@ -70,11 +70,11 @@ module _ (ix : Index) (l d : ℕ) where
   posting-none h = none_last (λ k. eqb (leaf_document ix l k) d) (leaf_number ix l) (λ i m. ne_eqb _ _ (h i m))
 
   -- in a run that ascends the posting of the document is the one that it names
-  pub posting-at : Ascending ix l → (i : ℕ) → i < leaf_number ix l → leaf_document ix l i ≡ d → posting_at ix l d ≡ some i
+  pub posting-at : RunAscends ix l → (i : ℕ) → i < leaf_number ix l → leaf_document ix l i ≡ d → posting_at ix l d ≡ some i
   posting-at a i m e =
       last-at (λ k. eqb (leaf_document ix l k) d) (leaf_number ix l) i m (eq-eqb _ _ e) (λ j g n. ne_eqb _ _ (λ (s : leaf_document ix l j ≡ d). omega (arith, a i j g n)))
 
 -- two postings of an ascending run with the same document are one
-pub posting-once : (ix : Index) (l i j : ℕ) → Ascending ix l → i < leaf_number ix l → j < leaf_number ix l → leaf_document ix l i ≡ leaf_document ix l j → i ≡ j
+pub posting-once : (ix : Index) (l i j : ℕ) → RunAscends ix l → i < leaf_number ix l → j < leaf_number ix l → leaf_document ix l i ≡ leaf_document ix l j → i ≡ j
 posting-once ix l i j a m n e =
     same_some (posting_at ix l (leaf_document ix l j)) i j (posting-at ix l (leaf_document ix l j) a i m e) (posting-at ix l (leaf_document ix l j) a j n refl)

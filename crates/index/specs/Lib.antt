@@ -1,4 +1,5 @@
--- What the contracts of this crate name beside the definitions of `meaning`, and what an accepted index is known to hold.
+-- What the contracts of this crate name beside the definitions of `meaning`,
+-- and what an accepted index is known to hold.
 pub mod Slices
 pub mod Ranges
 pub mod IndexOf

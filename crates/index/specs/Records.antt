@@ -10,4 +10,10 @@ field_of ix f = record { average = field_average ix f; norms = field_norms ix f;
 
 -- the words of leaf l
 abbrev pub leaf_of : Index → ℕ → Leaf
-leaf_of ix l = record { field = leaf_field ix l; first = leaf_first ix l; number = leaf_number ix l; idf = leaf_idf ix l }
+leaf_of ix l =
+    record {
+      field = leaf_field ix l;
+      first = leaf_first ix l;
+      number = leaf_number ix l;
+      idf = leaf_idf ix l;
+    }

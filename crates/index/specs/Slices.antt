@@ -6,7 +6,17 @@ use Rattle.meaning.specs.Lent.{Index}
 -- the record of all that is lent
 abbrev pub lent : ℕ → List ℕ → List ℕ → List ℕ → List ℕ → List ℕ → List ℕ → List ℕ → List ℕ → Index
 lent n fs ls ps qs ns vs cs xs =
-    record { max_doc = n; fields = fs; leaves = ls; postings = ps; positions = qs; norms = ns; live = vs; columns = cs; values = xs }
+    record {
+      max_doc = n;
+      fields = fs;
+      leaves = ls;
+      postings = ps;
+      positions = qs;
+      norms = ns;
+      live = vs;
+      columns = cs;
+      values = xs;
+    }
 
 -- the field records alone
 abbrev pub fields_only : List ℕ → Index

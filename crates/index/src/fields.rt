@@ -2,13 +2,17 @@
 ghost use Rattle.std.specs.Prelude.{◌≡◌, ◌<◌, ◌/◌, eqb, length};
 ghost use Rattle.meaning.specs.IndexRefusals.{wrong_field, wrong2};
 ghost use Rattle.meaning.specs.Lent.{field_count};
+ghost use Rattle.index.specs.declared.fields.TheConstants.{FIELD_WORDS};
 ghost use Rattle.index.specs.Slices.{fields_only};
 ghost use Rattle.index.specs.Records.{field_of};
 
 use super::wrong_records;
 
+// The words of a field.
+pub const FIELD_WORDS: usize = 3;
+
 // The limits of document 01: 16 fields, an average of 1 to 16,777,216 as f32 bits.
-const MAX_FIELDS: usize = 16;
+pub const MAX_FIELDS: usize = 16;
 
 const LEAST_AVERAGE: u32 = 0x3f80_0000;
 
@@ -41,25 +45,26 @@ impl Field {
 pub fn field_count(fields: &[u32]) -> usize
     ensures { result ≡ field_count (fields_only fields.now) }
 {
-    fields.len() / 3
+    fields.len() / FIELD_WORDS
 }
 
 // Field number f.
-// Kept: no plainer by From: what is lent is a slice of many records, so one record's words would first be made an array.
+// Kept: no plainer by From: what is lent is a slice of many records,
+// so one record's words would first be made an array.
 pub fn field_at(fields: &[u32], f: usize) -> Field
-    requires { f < length fields.now / 3 }
+    requires { f < length fields.now / FIELD_WORDS }
     ensures { result ≡ field_of (fields_only fields.now) f }
 {
     Field {
-        average: fields[3 * f],
-        norms: fields[3 * f + 1],
-        positions: fields[3 * f + 2],
+        average: fields[FIELD_WORDS * f],
+        norms: fields[FIELD_WORDS * f + 1],
+        positions: fields[FIELD_WORDS * f + 2],
     }
 }
 
 // An average or a flag of field f outside its values.
 fn wrong_field(fields: &[u32], f: usize) -> bool
-    requires { f < length fields.now / 3 }
+    requires { f < length fields.now / FIELD_WORDS }
     ensures { result ≡ wrong_field (fields_only fields.now) f }
 {
     let field = field_at(fields, f);
@@ -73,5 +78,5 @@ fn wrong_field(fields: &[u32], f: usize) -> bool
 pub fn wrong_fields(fields: &[u32]) -> bool
     ensures { result ≡ wrong2 (fields_only fields.now) }
 {
-    wrong_records::<3, _>(fields, MAX_FIELDS, |f| wrong_field(fields, f))
+    wrong_records::<FIELD_WORDS, _>(fields, MAX_FIELDS, |f| wrong_field(fields, f))
 }

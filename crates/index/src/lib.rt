@@ -32,7 +32,10 @@ fn wrong_records<const SIZE: usize, F: Fn(usize) -> bool>(
 ) -> bool
     requires size { 0 < SIZE }
     requires may_ask { (i : ℕ) → i < length words.now / SIZE → F.pre wrong i }
-    ensures { (p : ℕ → Bool) → ((i : ℕ) (b : Bool) → i < length words.now / SIZE → F.post wrong i b → b ≡ p i) → result ≡ (not_whole (length words.now) SIZE || ltb limit (length words.now / SIZE) || any_below (length words.now / SIZE) p) }
+    ensures { (p : ℕ → Bool)
+        → ((i : ℕ) (b : Bool) → i < length words.now / SIZE → F.post wrong i b → b ≡ p i)
+        → result ≡ (not_whole (length words.now) SIZE || ltb limit (length words.now / SIZE)
+        || any_below (length words.now / SIZE) p) }
 {
     let count = words.len() / SIZE;
     if words.len() % SIZE != 0 {

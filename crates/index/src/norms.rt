@@ -3,13 +3,15 @@ ghost use Rattle.std.specs.Prelude.{◌≡◌, false, ◌≤◌, ◌*◌, ◌/�
 ghost use Rattle.meaning.specs.Below.{count_below};
 ghost use Rattle.meaning.specs.Lent.{has_norms};
 ghost use Rattle.meaning.specs.IndexRefusals.{wrong2, wrong3};
+ghost use Rattle.meaning.specs.Limits.{max_fields};
 ghost use Rattle.index.specs.Slices.{fields_only, lengths_only};
+ghost use Rattle.index.specs.declared.fields.TheConstants.{FIELD_WORDS};
 
 use super::fields::{field_at, field_count};
 
 // How many of the fields before field f have norms.
 fn norms_before(fields: &[u32], f: usize) -> usize
-    requires { f ≤ length fields.now / 3 }
+    requires { f ≤ length fields.now / FIELD_WORDS }
     ensures { result ≡ count_below f (has_norms (fields_only fields.now)) }
 {
     (0..f)
@@ -19,7 +21,7 @@ fn norms_before(fields: &[u32], f: usize) -> usize
 
 // Where the norm bytes of a field with norms begin.
 pub fn norms_offset(max_doc: u32, fields: &[u32], field: usize) -> usize
-    requires { (field ≤ length fields.now / 3) × (field ≤ 16) }
+    requires { (field ≤ length fields.now / FIELD_WORDS) × (field ≤ max_fields) }
     ensures { result ≡ count_below field (has_norms (fields_only fields.now)) * max_doc }
 {
     norms_before(fields, field) * max_doc as usize

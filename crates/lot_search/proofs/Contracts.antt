@@ -1,4 +1,4 @@
--- The clauses of the contracts of the exports lot_search, lot_page and lot_pick are those of `border`'s functions, so a call of an export is a call as `border_demands` has it. `Learnt` is what the kit reads from an `ensures`, `args` what a call was lent in the order of the parameters, `end` what it was lent as it stood afterwards. Assumes nothing.
+-- The clauses of the contracts of the exports lot_search, lot_page and lot_pick are those of `border`'s functions, so a call of an export is a call as `demands_border` has it. `Learnt` is what the kit reads from an `ensures`, `args` what a call was lent in the order of the parameters, `end` what it was lent as it stood afterwards. Assumes nothing.
 use contract.Lifetimes.{Lfts}
 use borrow.Fn.Kinds.{Dens, res_t, ended_of}
 use denote.Triple.Clauses.{AtExit}
@@ -10,8 +10,8 @@ use Rattle.lot_search.proofs.lot_pick.Kinds as pick-kinds
 use Rattle.lot_search.proofs.lot_pick.Reads as pick-contract
 use Rattle.meaning.specs.Lent.{Index}
 use Rattle.index.specs.Slices.{lent}
-use Rattle.border_demands.specs.Calls.{SearchCall, PageCall, PickCall}
-use Rattle.border_demands.proofs.Contracts as of-border
+use Rattle.demands_border.specs.Calls.{SearchCall, PageCall, PickCall}
+use Rattle.demands_border.proofs.Contracts as of-border
 
 abbrev search-index : (κs : Lfts 15) → Dens κs search-kinds.ps → Index
 search-index κs args = lent args.0 args.1.0.now args.1.1.0.now args.1.1.1.0.now args.1.1.1.1.0.now args.1.1.1.1.1.0.now args.1.1.1.1.1.1.0.now args.1.1.1.1.1.1.1.0.now args.1.1.1.1.1.1.1.1.0.now

@@ -1,18 +1,13 @@
-// The functions that C and Rust call, made into liblot_search.a: each is the function of `border` that has its name, and states its clauses again.
+// The functions that C and Rust call, made into liblot_search.a: each is the function of `border` that has its name,
+// and states its clauses again.
 #![tactic(auto)]
 
 pub mod write_index;
 
-ghost use Rattle.std.specs.Prelude.{◌≡◌, map, length};
-ghost use Rattle.std.specs.Float.{binary32};
-ghost use Rattle.std.specs.Float.Ieee.{to_bits};
-ghost use Rattle.meaning.specs.Query.{query_tree};
-ghost use Rattle.meaning.specs.FullList.{full_list};
-ghost use Rattle.meaning.specs.Hits.{hits as hits_of};
-ghost use Rattle.meaning.specs.Entries.{written, answered, Kept, page_of, picked_list};
+ghost use Rattle.std.specs.Prelude.{length};
 ghost use Rattle.index.specs.Slices.{lent};
-ghost use Rattle.order_check.specs.Lends.{work};
-ghost use Rattle.border.specs.Border.{border_search, border_page, border_pick, top_numbers, page_numbers};
+ghost use Rattle.check_order.specs.WorkOf.{work};
+ghost use Rattle.border.specs.Border.{LotSearches, LotPages, LotPicks, LotKept};
 
 // Kept: the C interface hands over each slice and number by itself, so its clauses name them one by one.
 #[unsafe(no_mangle)]
@@ -26,27 +21,41 @@ pub extern "C" fn lot_search(
     live: &[u64],
     columns: &[u32],
     values: &[u32],
-    q: &[u32],
+    query: &[u32],
     k: u32,
     t: u32,
     states: &mut [u32],
-    a: &mut [i32],
-    b: &mut [i32],
+    starts: &mut [i32],
+    other_starts: &mut [i32],
     ranges: &mut [u32],
     hits: &mut [i64],
     answer: &mut [u64],
 ) -> u32
-    ensures value { result ≡ border_search (lent max_doc fields.now leaves.now postings.now positions.now norms.now live.now columns.now values.now) q.now k (work (length states.old) (length a.old) (length b.old) (length ranges.old)) (length hits.old) (length answer.old) }
-    ensures hits_after { hits.new ≡ answered result (written (hits_of k (full_list (lent max_doc fields.now leaves.now postings.now positions.now norms.now live.now columns.now values.now) (query_tree q.now))) hits.old) (λ n. hits.old) }
-    ensures answer_after { answer.new ≡ answered result (written (top_numbers k t (full_list (lent max_doc fields.now leaves.now postings.now positions.now norms.now live.now columns.now values.now) (query_tree q.now))) answer.old) (λ n. answer.old) }
-    ensures kept { Kept result states.old states.new }
-    ensures kept_2 { Kept result a.old a.new }
-    ensures kept_3 { Kept result b.old b.new }
-    ensures kept_4 { Kept result ranges.old ranges.new }
+    ensures searches { LotSearches (lent max_doc fields.now leaves.now postings.now positions.now norms.now
+        live.now columns.now values.now) query.now k t (work (length states.old) (length starts.old)
+        (length other_starts.old) (length ranges.old)) hits.old hits.new answer.old answer.new result }
+    ensures kept { LotKept result states.old states.new starts.old starts.new
+        other_starts.old other_starts.new ranges.old ranges.new }
 {
     border::lot_search(
-        max_doc, fields, leaves, postings, positions, norms, live, columns, values, q, k, t,
-        states, a, b, ranges, hits, answer,
+        max_doc,
+        fields,
+        leaves,
+        postings,
+        positions,
+        norms,
+        live,
+        columns,
+        values,
+        query,
+        k,
+        t,
+        states,
+        starts,
+        other_starts,
+        ranges,
+        hits,
+        answer,
     )
 }
 
@@ -62,28 +71,42 @@ pub extern "C" fn lot_page(
     live: &[u64],
     columns: &[u32],
     values: &[u32],
-    q: &[u32],
+    query: &[u32],
     target: u32,
     states: &mut [u32],
-    a: &mut [i32],
-    b: &mut [i32],
+    starts: &mut [i32],
+    other_starts: &mut [i32],
     ranges: &mut [u32],
     documents: &mut [u32],
     scores: &mut [u32],
     answer: &mut [u64],
 ) -> u32
-    ensures value { result ≡ border_page (lent max_doc fields.now leaves.now postings.now positions.now norms.now live.now columns.now values.now) q.now target (work (length states.old) (length a.old) (length b.old) (length ranges.old)) (length documents.old) (length scores.old) (length answer.old) }
-    ensures documents_after { documents.new ≡ answered result (written (map (λ h. h.doc) (page_of (lent max_doc fields.now leaves.now postings.now positions.now norms.now live.now columns.now values.now) q.now target (length documents.old)).given) documents.old) (λ n. documents.old) }
-    ensures scores_after { scores.new ≡ answered result (written (map (λ h. to_bits binary32 h.score) (page_of (lent max_doc fields.now leaves.now postings.now positions.now norms.now live.now columns.now values.now) q.now target (length documents.old)).given) scores.old) (λ n. scores.old) }
-    ensures answer_after { answer.new ≡ answered result (written (page_numbers (page_of (lent max_doc fields.now leaves.now postings.now positions.now norms.now live.now columns.now values.now) q.now target (length documents.old))) answer.old) (λ n. answer.old) }
-    ensures kept { Kept result states.old states.new }
-    ensures kept_2 { Kept result a.old a.new }
-    ensures kept_3 { Kept result b.old b.new }
-    ensures kept_4 { Kept result ranges.old ranges.new }
+    ensures pages { LotPages (lent max_doc fields.now leaves.now postings.now positions.now norms.now
+        live.now columns.now values.now) query.now target (work (length states.old) (length starts.old)
+        (length other_starts.old) (length ranges.old)) documents.old documents.new scores.old scores.new
+        answer.old answer.new result }
+    ensures kept { LotKept result states.old states.new starts.old starts.new
+        other_starts.old other_starts.new ranges.old ranges.new }
 {
     border::lot_page(
-        max_doc, fields, leaves, postings, positions, norms, live, columns, values, q, target,
-        states, a, b, ranges, documents, scores, answer,
+        max_doc,
+        fields,
+        leaves,
+        postings,
+        positions,
+        norms,
+        live,
+        columns,
+        values,
+        query,
+        target,
+        states,
+        starts,
+        other_starts,
+        ranges,
+        documents,
+        scores,
+        answer,
     )
 }
 
@@ -97,9 +120,7 @@ pub extern "C" fn lot_pick(
     hits: &mut [i64],
     answer: &mut [u64],
 ) -> u32
-    ensures value { result ≡ border_pick documents.now scores.now k (length hits.old) (length answer.old) }
-    ensures hits_after { hits.new ≡ answered result (written (hits_of k (picked_list documents.now scores.now)) hits.old) (λ n. hits.old) }
-    ensures answer_after { answer.new ≡ answered result (written (top_numbers k t (picked_list documents.now scores.now)) answer.old) (λ n. answer.old) }
+    ensures { LotPicks documents.now scores.now k t hits.old hits.new answer.old answer.new result }
 {
     border::lot_pick(documents, scores, k, t, hits, answer)
 }

@@ -1,5 +1,5 @@
--- Document 01's examples that are marked P, its whole case, one input for each refusal, and request 2026-03's examples: one table, one theorem over it, computed.
--- Two more rows tell the order and the format of a Boolean's additions apart. Assumes nothing.
+-- Document 01's examples marked P, its whole case, one input for each refusal, request 2026-03's examples, and two rows
+-- that tell the order and format of a Boolean's additions apart: one table, computed. Assumes nothing.
 use mathlib.Core.Path.{◌≡◌, refl}
 use mathlib.Core.List.{List, [], ◌∷◌, ◌++◌, map}
 use Prim.Native.Nat.{ℕ, ◌*◌, ◌/◌, ◌%◌, ◌^◌}

@@ -1,4 +1,5 @@
--- Request 2026-03: a reading that failed is never listed, an end that is no number lists nothing, and nothing else changed. Assumes nothing.
+-- Request 2026-03: a reading that failed is never listed, an end that is no number lists nothing, and nothing else
+-- changed. Assumes nothing.
 use mathlib.Core.Path.{◌≡◌, refl, sym, ap, ap₂, ◌∙◌}
 use mathlib.Core.Logic.{◌⊎◌, ⊎_elim}
 use mathlib.Core.Bool.{Bool, true, false, not, cond, ◌&&◌, true≢false}
@@ -73,7 +74,8 @@ given-bad : (kind type x : ℕ) → (kind ≡ 0 → ⊥) → failed type x ≡ t
 given-bad kind type x given bad = rw (ne_eqb kind 0 given, bad)
 
 -- ---- what is listed
--- "a Range never lists a document whose f64 value is NaN": each document listed has a value, and it has not failed, whatever the range
+-- "a Range never lists a document whose f64 value is NaN": each document listed has a value, and it has not failed,
+-- whatever the range
 pub no-failed-listed : (ix : Index) (r : NumericRange) (i : ℕ) → i < length (range_documents ix r) →
     let d = get_or (range_documents ix r) i 0 in
     (value_present ix r.column d ≡ 1) × (failed (column_type ix r.column) (value_bits ix r.column d) ≡ false)
@@ -117,7 +119,8 @@ pub failed-end-lists-none : (ix : Index) (r : NumericRange) →
 failed-end-lists-none ix r = ⊎_elim (λ e. failed-lower-lists-none ix r e.0 e.1) (λ e. failed-upper-lists-none ix r e.0 e.1)
 
 -- ---- numbers are as before
--- document 01's in_range as it was before the request, what it called comparable written out: a NaN has its place in totalOrder
+-- document 01's in_range as it was before the request, what it called comparable written out: a NaN has its place in
+-- totalOrder
 unfoldable pub in_range_by_order : Index → NumericRange → ℕ → Bool
 in_range_by_order ix r d =
     let c = r.column in

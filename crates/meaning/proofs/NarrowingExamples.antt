@@ -1,5 +1,5 @@
--- Worked examples of narrowing: binary64 patterns at every border, the binary32 pattern of each, and the step that decides (request 2026-04). Both definitions are computed on each row.
--- Values are compared and not patterns, since `to_bits` would give 2^128 the pattern of the infinity. Assumes nothing.
+-- Narrowing at every border: binary64 patterns, the binary32 pattern of each and the step that decides (request
+-- 2026-04). Values are compared, since `to_bits` would give 2^128 the pattern of the infinity. Assumes nothing.
 use mathlib.Core.Path.{◌≡◌, refl}
 use Prim.Native.Nat.{ℕ}
 use lib.Ieee.{Float, binary32, binary64, of_bits, of_fields, round, units, odd, size, span, climb}

@@ -1,4 +1,5 @@
--- Words stored one after the other: two runs of stores are one, stores over others are the later ones, and stores from the front on leave what is behind them. Assumes nothing.
+-- Words stored one after the other: two runs of stores are one, stores over others are the later ones, and stores from
+-- the front on leave what is behind them. Assumes nothing.
 use mathlib.Core.Path.{◌≡◌, refl, sym, ap, ap₂, ◌∙◌}
 use mathlib.Core.List.{List, [], ◌∷◌, ◌++◌}
 use Prim.Native.Nat.{ℕ, suc, ◌+◌, ◌≤◌, ◌<◌}

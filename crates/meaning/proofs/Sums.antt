@@ -1,4 +1,5 @@
--- Laws of sum_below: one term more, two sums that agree, terms that are 0, a term that grows, the first term taken out. Assumes nothing.
+-- Laws of sum_below: one term more, two sums that agree, terms that are 0, a term that grows, the first term taken out.
+-- Assumes nothing.
 use mathlib.Core.Path.{◌≡◌, refl, sym, ap, ap₂, ◌∙◌}
 use mathlib.Core.Logic.{⊎_elim}
 use Prim.Native.Nat.{ℕ, zero, suc, ◌+◌, ◌≤◌, ◌<◌}

@@ -1,4 +1,5 @@
--- An index that holds some runs gives them back: a leaf's words say its run's place and number, and the run read there is the one packed. Assumes nothing.
+-- An index that holds some runs gives them back: a leaf's words say its run's place and number, and the run read there
+-- is the one packed. Assumes nothing.
 use mathlib.Core.Path.{◌≡◌, refl, sym, ap, ap₂, ◌∙◌, subst}
 use mathlib.Core.Bool.{Bool, true, false, cond}
 use mathlib.Core.List.{List, [], ◌∷◌, ◌++◌, append_assoc}
@@ -253,7 +254,8 @@ module _ (ix : Index) (leaf_fields idfs : List ℕ) (rs : List (List Posting)) (
     packable-here : Packable has run
     packable-here = subst (λ (p : Bool). Packable p run) (sym has-is) (packs.packable l in-runs)
 
-    -- the words from its first posting on begin with its run's, the positions from `begin` on with those of its postings
+    -- the words from its first posting on begin with its run's, the positions from `begin` on with those of its
+    -- postings
     abbrev words-behind : List ℕ
     words-behind = later-words rs l in-runs has_all begin
 

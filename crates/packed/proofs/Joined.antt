@@ -1,4 +1,5 @@
--- Laws of `join_to`: lists one after the other, of which one grows at the end, and rows that are all of one width. Assumes nothing.
+-- Laws of `join_to`: lists one after the other, of which one grows at the end, and rows that are all of one width.
+-- Assumes nothing.
 use mathlib.Core.Path.{◌≡◌, refl, sym, ap, ap₂, ◌∙◌}
 use mathlib.Core.Logic.{⊎_elim}
 use mathlib.Core.List.{List, [], ◌++◌, append_assoc, append-nil}

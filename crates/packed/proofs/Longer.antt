@@ -1,4 +1,5 @@
--- Packed words of two lists one after the other: of postings and of runs; so one posting or one run more at the end. Assumes nothing.
+-- Packed words of two lists one after the other: of postings and of runs; so one posting or one run more at the end.
+-- Assumes nothing.
 use mathlib.Core.Path.{◌≡◌, refl, sym, ap, ◌∙◌}
 use mathlib.Core.Bool.{Bool, cond}
 use mathlib.Core.List.{List, [], ◌∷◌, ◌++◌, append_assoc}

@@ -1,4 +1,5 @@
--- Words that meet what `frequency` and `place` ask, with document 01's answers: positions {0, 5, 5} and {6, 6, 9} at offsets 0 and 1 twice, and a start below 0. Assumes nothing.
+-- Words that meet what `frequency` and `place` ask, with document 01's answers: positions {0, 5, 5} and {6, 6, 9} at
+-- offsets 0 and 1 twice, and a start below 0. Assumes nothing.
 use mathlib.Core.Path.{◌≡◌, refl, subst}
 use mathlib.Core.Bool.{false}
 use mathlib.Core.List.{List, [], ◌∷◌}

@@ -1,4 +1,5 @@
--- The laws of phrases: size of a common part, the phrase step, Place, the words for an index; and examples that meet what is asked.
+-- The laws of phrases: size of a common part, the phrase step, Place, the words for an index; and examples that meet
+-- what is asked.
 pub mod Size
 pub mod LeastFrequency
 pub mod Steps

@@ -12,7 +12,7 @@ use lib.ListN.{length, drop}
 use Rattle.meaning.specs.Phrase.{multiplicity, smallest}
 use Rattle.phrase_starts.specs.Terms.{term_at, starts_of, start_lists, Good}
 use Rattle.phrase_starts.specs.Common.{Ascending, Common}
-use Rattle.phrase.specs.Step.{Held, unmet_from, Candidates, Left, Further, Meets}
+use Rattle.phrase.specs.Step.{CandidatesHeld, unmet_from, Candidates, Left, Further, Meets}
 use Rattle.phrase_starts.proofs.Records.{lists_at, lists-end, lists-some, smallest-at}
 
 -- ---- the common part of lists
@@ -48,7 +48,7 @@ left-none ps ts at [] e = record { common = common-none (start_lists ps (drop at
 left-none ps ts at (c ∷ cs) e = absurd (omega (arith, e))
 
 -- ---- the next record to meet
-module _ (ps ts : List ℕ) (r : ℕ) (cs : List ℤ) (k : Held ps ts r cs) (at : ℕ) (w : at % 3 ≡ 0) (h : at ≤ length ts) where
+module _ (ps ts : List ℕ) (r : ℕ) (cs : List ℤ) (k : CandidatesHeld ps ts r cs) (at : ℕ) (w : at % 3 ≡ 0) (h : at ≤ length ts) where
   pub unmet-start : unmet_from r at % 3 ≡ 0
   unfolding unmet_from
   unmet-start = go (eqb at r)
@@ -95,7 +95,7 @@ module _ (ps ts : List ℕ) (r at : ℕ) (cs : List ℤ) (places : ℕ) (c : Can
   record-there = omega (arith, c.held.good.whole, c.record-start, c.there)
 
   module _ (ms : List ℤ) (m : Common (cs ∷ starts_of ps (term_at ts at) ∷ []) ms) (few : length ms ≤ length cs) where
-    held-met : Held ps ts r ms
+    held-met : CandidatesHeld ps ts r ms
     unfolding smallest
     held-met =
         record {

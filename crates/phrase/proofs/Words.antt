@@ -1,14 +1,15 @@
 -- The words for a phrase of an index say its starts, and are good where the index is accepted. Assumes nothing.
-use mathlib.Core.Path.{◌≡◌, refl, ap}
+use mathlib.Core.Path.{◌≡◌, refl, ap, ◌∙◌}
 use mathlib.Core.Bool.{true, false, ◌&&◌, ◌||◌}
-use mathlib.Core.List.{List, [], ◌∷◌}
+use mathlib.Core.List.{List, [], ◌∷◌, ◌++◌, append_assoc}
 use mathlib.Core.Option.{Option, none, some}
 use Prim.Native.Nat.{ℕ, zero, suc, ◌+◌, ◌-◌, ◌*◌, ◌%◌, ◌≤◌, ◌<◌}
 use native.Mathlib.Nat.{not-suc-le-zero}
 use native.Mathlib.Omega.{arith}
 use borrow.Author.Tests.{ltb-false, lt-ltb}
 use lib.Dec.{ltb}
-use lib.ListN.{length}
+use lib.ListN.{length, take, set, length-set}
+use lib.Seq.{take-suc-set}
 use Rattle.meaning.specs.Below.{list_to, any_below}
 use Rattle.meaning.specs.Limits.{no_more_docs}
 use Rattle.meaning.specs.Lent.{Index, has_positions, leaf_field, leaf_frequency, leaf_position, leaf_positions_index}
@@ -105,3 +106,17 @@ words-good ix d ts h f =
 pub words-room : (ix : Index) (d : ℕ) (t : PhraseTerm) (ts : List PhraseTerm) (places : ℕ) → frequency_of ix t.leaf (posting_at ix t.leaf d) ≤ places → Room (phrase_words ix d (t ∷ ts)) places
 unfolding phrase_words
 words-room ix d t ts places h = record { term = 0; record-start = omega arith; one-of-them = omega arith; enough = h }
+
+-- a term's three words, written behind a front
+pub take-three : (out : List ℕ) (n a b c : ℕ) → n + 2 < length out → take (n + 3) (set (set (set out n a) (n + 1) b) (n + 2) c) ≡ take n out ++ (a ∷ b ∷ c ∷ [])
+take-three out n a b c h =
+    let o1 = set out n a in
+    let o2 = set o1 (suc n) b in
+    let e1 : n + 1 ≡ suc n = omega arith in
+    let e2 : n + 2 ≡ suc (suc n) = omega arith in
+    let e3 : n + 3 ≡ suc (suc (suc n)) = omega arith in
+    rw (e1, e2, e3)
+    (take-suc-set o2 (suc (suc n)) c (omega (arith, length-set o1 (suc n) b, length-set out n a))
+    ∙ ap (λ (y : List ℕ). y ++ (c ∷ [])) (take-suc-set o1 (suc n) b (omega (arith, length-set out n a)) ∙ ap (λ (y : List ℕ). y ++ (b ∷ [])) (take-suc-set out n a (omega arith)))
+    ∙ append_assoc (take n out ++ (a ∷ [])) (b ∷ []) (c ∷ [])
+    ∙ append_assoc (take n out) (a ∷ []) (b ∷ c ∷ []))

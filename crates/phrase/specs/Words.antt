@@ -1,4 +1,5 @@
--- The words that say a phrase's terms in a document of an index: what a caller writes for `frequency` and `place`. Assumes nothing: these are definitions.
+-- The words that say a phrase's terms in a document of an index: what a caller writes for `frequency` and `place`.
+-- Assumes nothing: these are definitions.
 use Rattle.std.specs.Prelude.{List, [], ◌∷◌, ℕ}
 use Rattle.std.proofs.Math.Option.{Option, none, some}
 use Rattle.meaning.specs.Lent.{Index, leaf_positions_index}
@@ -14,4 +15,5 @@ first_of ix l (some i) = leaf_positions_index ix l i
 unfoldable pub phrase_words : Index → ℕ → List PhraseTerm → List ℕ
 phrase_words ix d [] = []
 phrase_words ix d (t ∷ ts) =
-    first_of ix t.leaf (posting_at ix t.leaf d) ∷ frequency_of ix t.leaf (posting_at ix t.leaf d) ∷ t.offset ∷ phrase_words ix d ts
+    first_of ix t.leaf (posting_at ix t.leaf d) ∷ frequency_of ix t.leaf (posting_at ix t.leaf d) ∷ t.offset
+    ∷ phrase_words ix d ts

@@ -1,4 +1,5 @@
--- The merge of two lists that do not fall: what is written has each entry with the lesser of its two multiplicities. Assumes nothing.
+-- The merge of two lists that do not fall: what is written has each entry with the lesser of its two multiplicities.
+-- Assumes nothing.
 use mathlib.Core.Path.{◌≡◌, sym, subst}
 use mathlib.Core.Bool.{Bool, true, false, cond}
 use mathlib.Core.List.{List, [], ◌∷◌, ◌++◌, append_assoc}

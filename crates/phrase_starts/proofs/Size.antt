@@ -1,4 +1,5 @@
--- A list with each entry's smallest multiplicity has as many entries as the lists' common part, whatever order the lists are met in. Assumes nothing.
+-- A list with each entry's smallest multiplicity has as many entries as the lists' common part, whatever order the
+-- lists are met in. Assumes nothing.
 use mathlib.Core.Path.{◌≡◌, refl, sym, ap, subst, ◌∙◌}
 use mathlib.Core.Bool.{Bool, true, false, cond, not}
 use mathlib.Core.List.{List, [], ◌∷◌, ◌++◌}

@@ -15,37 +15,23 @@ use borrow.Author.Tests.{le-ltb}
 use Rattle.meaning.specs.Limits.{largest_boost}
 use Rattle.meaning.specs.Ieee754.{zero_float}
 use Rattle.meaning.specs.Score.{boosted, passed}
-use Rattle.meaning.specs.Query.{record_count, record_kind, record_children, record_value, Occur, must, should, must_not, filter, occur_of, Tree, term, phrase, boolean, range, match_all, constant_score, boost, match_none, empty, Decoded, DecodedClauses, decode, decode_clauses, tree_of, clause, Clauses}
+use Rattle.meaning.specs.Query.{record_count, record_kind, record_children, record_value, Tree, term, phrase, boolean, range, match_all, constant_score, boost, match_none, empty, Decoded, DecodedClauses, decode, decode_clauses, tree_of, Clauses}
 use Rattle.meaning.specs.Bm25.{one}
 use Rattle.meaning.specs.QueryRefusals.{wrong7, above_limit, carries_above, clauses_above, wrong9}
 use Rattle.query.specs.declared.kinds.Kind.{Kind}
 use Rattle.query.specs.declared.kinds.Kind.TheVariants.{Term, Range, MatchAll, MatchNone}
 use Rattle.query.specs.Kinds.{kind_number}
 use Rattle.query.specs.Inner.{end_below_limit, clauses_below_limit}
-use Rattle.meaning.proofs.Tests.{or_left, or_right}
+use Rattle.meaning.proofs.Tests.{or_right}
 use Rattle.query.proofs.Inverse.{OneClause, one-clause, record-here, term-at, phrase-at, boolean-at, range_at, all-at, constant-at, boost-at, none-at, kind-is, KindIs, is-term, is-phrase, is-boolean, is-range, is_all, is-constant, is-boost, is_none, some_same}
 use Rattle.query.proofs.Whole.{whole}
 use Rattle.query.proofs.Spans.{no-depth, nothing}
 
--- ---- what a clause passes on
+-- ---- what a ConstantScore passes on
 -- the code's 0.0
 zero_bits : of_bits binary32 0 ≡ zero_float
 unfolding of_bits
 zero_bits = refl
-
-pub passed-must : (o : ℕ) (b : Float) (x : Occur) → o ≡ 1 → occur_of o ≡ some x → b ≡ passed x b
-passed-must o b x e f = ap (λ (y : Occur). passed y b) (some_same must x (sym (ap occur_of e) ∙ f))
-
-pub passed-should : (o : ℕ) (b : Float) (x : Occur) → o ≡ 2 → occur_of o ≡ some x → b ≡ passed x b
-passed-should o b x e f = ap (λ (y : Occur). passed y b) (some_same should x (sym (ap occur_of e) ∙ f))
-
-pub passed_none : (o : ℕ) (b : Float) (x : Occur) → (o ≡ 1 → ⊥) → (o ≡ 2 → ⊥) → occur_of o ≡ some x → of_bits binary32 0 ≡ passed x b
-passed_none zero b x n m e = nothing x e
-passed_none (suc zero) b x n m e = absurd (n refl)
-passed_none (suc (suc zero)) b x n m e = absurd (m refl)
-passed_none (suc (suc (suc zero))) b x n m e = zero_bits ∙ ap (λ (y : Occur). passed y b) (some_same must_not x e)
-passed_none (suc (suc (suc (suc zero)))) b x n m e = zero_bits ∙ ap (λ (y : Occur). passed y b) (some_same filter x e)
-passed_none (suc (suc (suc (suc (suc o))))) b x n m e = nothing x e
 
 -- ---- a boost's pattern is no NaN's
 pub boost-number : (n : ℕ) → n ≤ largest_boost → T (not (nan_bits binary32 n))
@@ -207,7 +193,3 @@ within-boost v t b e = or_right (above_limit b) (carries_above t (boosted b v)) 
 pub within-boolean : (m : ℕ) (cs : Clauses) (b : Float) → carries_above (boolean m cs) b ≡ false → clauses_above cs b ≡ false
 unfolding carries_above
 within-boolean m cs b e = or_right (above_limit b) (clauses_above cs b) e
-
-pub within-clause : (o : Occur) (t : Tree) (cs : Clauses) (b : Float) → clauses_above (clause o t cs) b ≡ false → (carries_above t (passed o b) ≡ false) × (clauses_above cs b ≡ false)
-unfolding clauses_above
-within-clause o t cs b e = (or_left (carries_above t (passed o b)) (clauses_above cs b) e, or_right (carries_above t (passed o b)) (clauses_above cs b) e)

@@ -7,7 +7,7 @@ use Prim.Native.Nat.{ℕ, zero, suc, ◌-◌, ◌≤◌, ◌<◌}
 use native.Mathlib.Omega.{arith}
 use native.Mathlib.Nat.{not-suc-le-zero}
 use Rattle.meaning.specs.Query.{record_count, record_occurrence, Occur, occur_of, Decoded, DecodedClauses, decode, decode_clauses, ◌>>=◌}
-use Rattle.query.specs.Inner.{end_of, end_of_clauses}
+use Rattle.query.specs.Inner.{decoded_end, end_of_clauses}
 use Rattle.query.proofs.Steps.{decode-missing, bind-none}
 
 module _ (q : List ℕ) (d : ℕ) where
@@ -24,17 +24,17 @@ module _ (q : List ℕ) (d : ℕ) where
   pub clause-missing : (n r : ℕ) → 0 < n → record_count q ≤ r → decode_clauses q (decode q d) n r ≡ none
   clause-missing n r h g = clause-none n r h (decode-missing q r d g)
 
-  pub end-none : (r : ℕ) → None ≡ end_of (decode q d r) → decode q d r ≡ none
+  pub end-none : (r : ℕ) → None ≡ decoded_end (decode q d r) → decode q d r ≡ none
   end-none r e = go (decode q d r) e
     where
-      go : (o : Option Decoded) → None ≡ end_of o → o ≡ none
+      go : (o : Option Decoded) → None ≡ decoded_end o → o ≡ none
       go none z = refl
       go (some D) z = cc
 
-  pub end-some : (r e : ℕ) → Some e ≡ end_of (decode q d r) → (D : Decoded) × (decode q d r ≡ some D) × (D.next ≡ e)
+  pub end-some : (r e : ℕ) → Some e ≡ decoded_end (decode q d r) → (D : Decoded) × (decode q d r ≡ some D) × (D.next ≡ e)
   end-some r e f = go (decode q d r) f
     where
-      go : (o : Option Decoded) → Some e ≡ end_of o → (D : Decoded) × (o ≡ some D) × (D.next ≡ e)
+      go : (o : Option Decoded) → Some e ≡ decoded_end o → (D : Decoded) × (o ≡ some D) × (D.next ≡ e)
       go none z = cc
       go (some D) z = (D, refl, cc)
 
@@ -47,7 +47,7 @@ module _ (q : List ℕ) (d : ℕ) where
   clause-past n r e o g D p i = rw (← i, g, p) (last_end (decode_clauses q (decode q d) n D.next) _ (λ cs. refl))
 
   -- past a clause, those left end where all do
-  pub clause-more : (n r e : ℕ) (o : Occur) → 0 < n → occur_of (record_occurrence q r) ≡ some o → Some e ≡ end_of (decode q d r) → end_of_clauses (decode_clauses q (decode q d) (n - 1) e) ≡ end_of_clauses (decode_clauses q (decode q d) n r)
+  pub clause-more : (n r e : ℕ) (o : Occur) → 0 < n → occur_of (record_occurrence q r) ≡ some o → Some e ≡ decoded_end (decode q d r) → end_of_clauses (decode_clauses q (decode q d) (n - 1) e) ≡ end_of_clauses (decode_clauses q (decode q d) n r)
   clause-more zero r e o h g f = absurd (not-suc-le-zero h)
   clause-more (suc n) r e o h g f = let s = end-some r e f in subst (λ (m : ℕ). end_of_clauses (decode_clauses q (decode q d) m e) ≡ end_of_clauses (decode_clauses q (decode q d) (suc n) r)) less (clause-past n r e o g s.0 s.1 s.2)
     where

@@ -1,4 +1,4 @@
--- More depth decodes the same. Assumes nothing.
+-- What is decoded with some depth left is decoded the same with more. Assumes nothing.
 use mathlib.Core.Path.{sym, ◌≡◌, ◌∙◌, subst}
 use mathlib.Core.Bool.{◌&&◌}
 use mathlib.Core.List.{List}

@@ -1,7 +1,6 @@
 -- The laws of this crate: those that the functions' proofs cite, and those for the crates above.
 pub mod Numbers
 pub mod Chains
-pub mod Below
 pub mod Inverse
 pub mod Spans
 pub mod Steps

@@ -1,4 +1,5 @@
--- What refusals 7 and 8 let through, said of the tree: what it names is present, and its values are within their limits. Assumes nothing.
+-- What refusals 7 and 8 let through, said of the tree: what it names is present, and its values are within their
+-- limits. Assumes nothing.
 use mathlib.Core.Path.{◌≡◌, sym, subst}
 use mathlib.Core.Bool.{true, false}
 use mathlib.Core.List.{List}

@@ -1,4 +1,5 @@
--- Where a decoded tree ends, that more depth decodes the same, and that each of its records stands for a tree or a phrase's term. Assumes nothing.
+-- Where a decoded tree ends, that more depth decodes the same, and that each of its records stands for a tree or a
+-- phrase's term. Assumes nothing.
 use mathlib.Core.Path.{◌≡◌, refl, sym, ap, subst}
 use mathlib.Core.Bool.{true}
 use mathlib.Core.List.{List}
@@ -56,10 +57,6 @@ tree-span q (suc k) r D e = go (tree-span q k) (kind-is q k r D e)
     go f (is-constant h) = let c = constant-at q k r D e h in child c.child c.next-is (f (r + 1) c.child c.decoded)
     go f (is-boost h) = let c = boost-at q k r D e h in child c.child c.next-is (f (r + 1) c.child c.decoded)
     go f (is_none h) = leaf (none-at q k r D e h).next-is
-
--- the clauses of a Boolean end within the query, not before they begin
-pub decoded-clauses-span : (q : List ℕ) (k n r : ℕ) (C : DecodedClauses) → r ≤ record_count q → decode_clauses q (decode q k) n r ≡ some C → (r ≤ C.next) × (C.next ≤ record_count q)
-decoded-clauses-span q k n r C h e = clauses-span q (decode q k) (tree-span q k) n r C h e
 
 -- ---- each record from a tree's to its end stands for a tree, or for a phrase's term
 pub data Stands (q : List ℕ) (i : ℕ) : Type 0 where

@@ -15,7 +15,7 @@ use Rattle.meaning.specs.Query.{phrase, phrase_terms_of, record_value, Kind, a_t
 use Rattle.query.specs.declared.kinds.Kind.{Kind as CodeKind}
 use Rattle.query.specs.declared.kinds.Kind.TheVariants.{Term, Phrase, Boolean, Range, MatchAll, ConstantScore, Boost, MatchNone, PhraseTerm}
 use Rattle.query.specs.Kinds.{kind_number}
-use Rattle.query.specs.Inner.{end_of, end_of_clauses, fitting}
+use Rattle.query.specs.Inner.{decoded_end, end_of_clauses, fitting}
 
 pub bind-none : {A B : Type 0} (o : Option A) (f : A → Option B) → ((a : A) → f a ≡ none) → (o >>= f) ≡ none
 bind-none none f h = refl
@@ -50,26 +50,26 @@ module _ (q : List ℕ) (r : ℕ) where
       (λ ok. rw e (bind-none (guard (eqb (record_children q r) 0)) _ (λ ok. refl)))
 
   -- ---- a phrase
-  pub phrase-shallow : (d : ℕ) → d ≡ 0 → None ≡ end_of (decode_phrase q d r)
+  pub phrase-shallow : (d : ℕ) → d ≡ 0 → None ≡ decoded_end (decode_phrase q d r)
   unfolding decode_phrase
   phrase-shallow d e = rw e
 
-  pub phrase-missing : (d : ℕ) → record_count q < r + 1 + record_children q r → None ≡ end_of (decode_phrase q d r)
+  pub phrase-missing : (d : ℕ) → record_count q < r + 1 + record_children q r → None ≡ decoded_end (decode_phrase q d r)
   unfolding decode_phrase
   phrase-missing d h =
       rw (lt-leb (r + 1 + record_children q r) (record_count q) h) (unguarded (ltb 0 d) _)
     where
-      unguarded : (b : Bool) (f : Bool → Option Decoded) → None ≡ end_of (guard (b && false) >>= f)
+      unguarded : (b : Bool) (f : Bool → Option Decoded) → None ≡ decoded_end (guard (b && false) >>= f)
       unguarded true f = refl
       unguarded false f = refl
 
   -- where there are records enough and a level is left, the terms decide
-  pub phrase-terms : (d : ℕ) → 0 < d → r + 1 + record_children q r ≤ record_count q → (right : Bool) → right ≡ not (any_below (record_children q r) (λ j. not (is_phrase_term q (r + 1 + j)))) → then_some right (r + 1 + record_children q r) ≡ end_of (decode_phrase q d r)
+  pub phrase-terms : (d : ℕ) → 0 < d → r + 1 + record_children q r ≤ record_count q → (right : Bool) → right ≡ not (any_below (record_children q r) (λ j. not (is_phrase_term q (r + 1 + j)))) → then_some right (r + 1 + record_children q r) ≡ decoded_end (decode_phrase q d r)
   unfolding decode_phrase
   phrase-terms d h g right e =
       rw (lt-ltb 0 d h, le-leb (r + 1 + record_children q r) (record_count q) g) (go (any_below (record_children q r) (λ j. not (is_phrase_term q (r + 1 + j)))) e)
     where
-      go : (b : Bool) → right ≡ not b → then_some right (r + 1 + record_children q r) ≡ end_of (guard (not b) >>= λ ok. some (record { tree = phrase (record_value q r 0) (phrase_terms_of q r); next = r + 1 + record_children q r }))
+      go : (b : Bool) → right ≡ not b → then_some right (r + 1 + record_children q r) ≡ decoded_end (guard (not b) >>= λ ok. some (record { tree = phrase (record_value q r 0) (phrase_terms_of q r); next = r + 1 + record_children q r }))
       go true z = rw z
       go false z = rw z
 
@@ -104,98 +104,98 @@ many-terms n h = rw (le-leb 1 n (omega arith), lt-leb n 32 h)
 
 -- ---- a tree, by the kind of its record
 -- what a bind ends in
-end-boolean : (o : Option DecodedClauses) (f : DecodedClauses → Decoded) → ((cs : DecodedClauses) → (f cs).next ≡ cs.next) → end_of (o >>= λ cs. some (f cs)) ≡ end_of_clauses o
+end-boolean : (o : Option DecodedClauses) (f : DecodedClauses → Decoded) → ((cs : DecodedClauses) → (f cs).next ≡ cs.next) → decoded_end (o >>= λ cs. some (f cs)) ≡ end_of_clauses o
 end-boolean none f e = refl
 end-boolean (some cs) f e = ap Some (e cs)
 
-end-child : (o : Option Decoded) (f : Decoded → Decoded) → ((t : Decoded) → (f t).next ≡ t.next) → end_of (o >>= λ t. some (f t)) ≡ end_of o
+end-child : (o : Option Decoded) (f : Decoded → Decoded) → ((t : Decoded) → (f t).next ≡ t.next) → decoded_end (o >>= λ t. some (f t)) ≡ decoded_end o
 end-child none f e = refl
 end-child (some t) f e = ap Some (e t)
 
 module _ (q : List ℕ) (r d : ℕ) where
-  pub end-root : d ≡ 0 → None ≡ end_of (decode q d r)
+  pub end-root : d ≡ 0 → None ≡ decoded_end (decode q d r)
   unfolding decode
   end-root e = rw e
 
-  pub end-missing : record_count q ≤ r → None ≡ end_of (decode q d r)
+  pub end-missing : record_count q ≤ r → None ≡ decoded_end (decode q d r)
   end-missing h = rw (decode-missing q r d h)
 
-  pub end-unknown : kind_of (record_kind q r) ≡ none → None ≡ end_of (decode q d r)
+  pub end-unknown : kind_of (record_kind q r) ≡ none → None ≡ decoded_end (decode q d r)
   end-unknown e = rw (decode-unknown q r d e)
 
-  pub end-astray : kind_of (record_kind q r) ≡ some a_phrase_term → None ≡ end_of (decode q d r)
+  pub end-astray : kind_of (record_kind q r) ≡ some a_phrase_term → None ≡ decoded_end (decode q d r)
   end-astray e = rw (decode-astray q r d e)
 
   module _ (deep : d ≡ 0 → ⊥) (here : r < record_count q) where
-    pub end-kind : (kind : Kind) → kind_of (record_kind q r) ≡ some kind → (x : Answer ℕ) → end_of (decode_kind q (decode q (d - 1)) (d - 1) r kind) ≡ x → fitting kind q r x ≡ end_of (decode q d r)
+    pub end-kind : (kind : Kind) → kind_of (record_kind q r) ≡ some kind → (x : Answer ℕ) → decoded_end (decode_kind q (decode q (d - 1)) (d - 1) r kind) ≡ x → fitting kind q r x ≡ decoded_end (decode q d r)
     end-kind kind e x f = go (children_fit kind (record_children q r)) refl
       where
-        go : (b : Bool) → children_fit kind (record_children q r) ≡ b → cond b x None ≡ end_of (decode q d r)
-        go true g = sym (ap (λ (z : ℕ). end_of (decode q z r)) (one_less d deep) ∙ ap end_of (decode-kind q r (d - 1) kind here e g) ∙ f)
+        go : (b : Bool) → children_fit kind (record_children q r) ≡ b → cond b x None ≡ decoded_end (decode q d r)
+        go true g = sym (ap (λ (z : ℕ). decoded_end (decode q z r)) (one_less d deep) ∙ ap decoded_end (decode-kind q r (d - 1) kind here e g) ∙ f)
         go false g = rw (decode-unfit q r d kind e g)
 
-    pub end-term : record_kind q r ≡ 1 → fitting a_term q r (Some (r + 1)) ≡ end_of (decode q d r)
+    pub end-term : record_kind q r ≡ 1 → fitting a_term q r (Some (r + 1)) ≡ decoded_end (decode q d r)
     unfolding decode_kind
     end-term e = end-kind a_term (ap kind_of e) (Some (r + 1)) refl
 
-    pub end-phrase : record_kind q r ≡ 2 → fitting a_phrase q r (end_of (decode_phrase q (d - 1) r)) ≡ end_of (decode q d r)
+    pub end-phrase : record_kind q r ≡ 2 → fitting a_phrase q r (decoded_end (decode_phrase q (d - 1) r)) ≡ decoded_end (decode q d r)
     unfolding decode_kind
-    end-phrase e = end-kind a_phrase (ap kind_of e) (end_of (decode_phrase q (d - 1) r)) refl
+    end-phrase e = end-kind a_phrase (ap kind_of e) (decoded_end (decode_phrase q (d - 1) r)) refl
 
-    pub end-clauses : record_kind q r ≡ 3 → fitting a_boolean q r (end_of_clauses (decode_clauses q (decode q (d - 1)) (record_children q r) (r + 1))) ≡ end_of (decode q d r)
+    pub end-clauses : record_kind q r ≡ 3 → fitting a_boolean q r (end_of_clauses (decode_clauses q (decode q (d - 1)) (record_children q r) (r + 1))) ≡ decoded_end (decode q d r)
     unfolding decode_kind
     end-clauses e =
         end-kind a_boolean (ap kind_of e) (end_of_clauses (decode_clauses q (decode q (d - 1)) (record_children q r) (r + 1)))
         (end-boolean (decode_clauses q (decode q (d - 1)) (record_children q r) (r + 1)) _ (λ cs. refl))
 
-    pub end-range : record_kind q r ≡ 4 → fitting a_term q r (Some (r + 1)) ≡ end_of (decode q d r)
+    pub end-range : record_kind q r ≡ 4 → fitting a_term q r (Some (r + 1)) ≡ decoded_end (decode q d r)
     unfolding decode_kind
     end-range e = end-kind a_range (ap kind_of e) (Some (r + 1)) refl
 
-    pub end-all : record_kind q r ≡ 5 → fitting a_term q r (Some (r + 1)) ≡ end_of (decode q d r)
+    pub end-all : record_kind q r ≡ 5 → fitting a_term q r (Some (r + 1)) ≡ decoded_end (decode q d r)
     unfolding decode_kind
     end-all e = end-kind a_match_all (ap kind_of e) (Some (r + 1)) refl
 
-    pub end-constant : record_kind q r ≡ 6 → fitting a_boost q r (end_of (decode_child q (decode q (d - 1)) r)) ≡ end_of (decode q d r)
+    pub end-constant : record_kind q r ≡ 6 → fitting a_boost q r (decoded_end (decode_child q (decode q (d - 1)) r)) ≡ decoded_end (decode q d r)
     unfolding decode_kind
     end-constant e =
-        end-kind a_constant_score (ap kind_of e) (end_of (decode_child q (decode q (d - 1)) r))
+        end-kind a_constant_score (ap kind_of e) (decoded_end (decode_child q (decode q (d - 1)) r))
         (end-child (decode_child q (decode q (d - 1)) r) _ (λ t. refl))
 
-    pub end-boost : record_kind q r ≡ 7 → fitting a_boost q r (end_of (decode_child q (decode q (d - 1)) r)) ≡ end_of (decode q d r)
+    pub end-boost : record_kind q r ≡ 7 → fitting a_boost q r (decoded_end (decode_child q (decode q (d - 1)) r)) ≡ decoded_end (decode q d r)
     unfolding decode_kind
     end-boost e =
-        end-kind a_boost (ap kind_of e) (end_of (decode_child q (decode q (d - 1)) r))
+        end-kind a_boost (ap kind_of e) (decoded_end (decode_child q (decode q (d - 1)) r))
         (end-child (decode_child q (decode q (d - 1)) r) _ (λ t. refl))
 
-    pub end_none : record_kind q r ≡ 8 → fitting a_term q r (Some (r + 1)) ≡ end_of (decode q d r)
+    pub end_none : record_kind q r ≡ 8 → fitting a_term q r (Some (r + 1)) ≡ decoded_end (decode q d r)
     unfolding decode_kind
     end_none e = end-kind a_match_none (ap kind_of e) (Some (r + 1)) refl
 
 -- ---- an only child
 module _ (q : List ℕ) (d r : ℕ) where
-  pub child-missing : record_count q ≤ r + 1 → None ≡ end_of (decode_child q (decode q d) r)
+  pub child-missing : record_count q ≤ r + 1 → None ≡ decoded_end (decode_child q (decode q d) r)
   unfolding decode_child
   child-missing h =
       rw (bind-none (guard (eqb (record_occurrence q (r + 1)) 0)) (λ ok. decode q d (r + 1)) (λ ok. decode-missing q (r + 1) d h))
 
-  pub child-placed : (record_occurrence q (r + 1) ≡ 0 → ⊥) → None ≡ end_of (decode_child q (decode q d) r)
+  pub child-placed : (record_occurrence q (r + 1) ≡ 0 → ⊥) → None ≡ decoded_end (decode_child q (decode q d) r)
   unfolding decode_child
   child-placed h = rw (ne_eqb (record_occurrence q (r + 1)) 0 h)
 
-  pub child-there : record_occurrence q (r + 1) ≡ 0 → end_of (decode q d (r + 1)) ≡ end_of (decode_child q (decode q d) r)
+  pub child-there : record_occurrence q (r + 1) ≡ 0 → decoded_end (decode q d (r + 1)) ≡ decoded_end (decode_child q (decode q d) r)
   unfolding decode_child
   child-there h = rw (eq-eqb (record_occurrence q (r + 1)) 0 h)
 
 -- ---- a tree, by its record's kind as the code names it
 abbrev pub end_at : List ℕ → ℕ → ℕ → CodeKind → Answer ℕ
 end_at q r below Term = fitting a_term q r (Some (r + 1))
-end_at q r below Phrase = fitting a_phrase q r (end_of (decode_phrase q below r))
+end_at q r below Phrase = fitting a_phrase q r (decoded_end (decode_phrase q below r))
 end_at q r below Boolean = fitting a_boolean q r (end_of_clauses (decode_clauses q (decode q below) (record_children q r) (r + 1)))
 end_at q r below Range = fitting a_term q r (Some (r + 1))
 end_at q r below MatchAll = fitting a_term q r (Some (r + 1))
-end_at q r below ConstantScore = fitting a_boost q r (end_of (decode_child q (decode q below) r))
-end_at q r below Boost = fitting a_boost q r (end_of (decode_child q (decode q below) r))
+end_at q r below ConstantScore = fitting a_boost q r (decoded_end (decode_child q (decode q below) r))
+end_at q r below Boost = fitting a_boost q r (decoded_end (decode_child q (decode q below) r))
 end_at q r below MatchNone = fitting a_term q r (Some (r + 1))
 end_at q r below PhraseTerm = None
 
@@ -203,7 +203,7 @@ module _ (q : List ℕ) (r d : ℕ) (deep : 1 ≤ d) (here : r < record_count q)
   some-level : d ≡ 0 → ⊥
   some-level e = omega (arith, deep, e)
 
-  end-at : (kind : CodeKind) → record_kind q r ≡ kind_number kind → end_at q r (d - 1) kind ≡ end_of (decode q d r)
+  end-at : (kind : CodeKind) → record_kind q r ≡ kind_number kind → end_at q r (d - 1) kind ≡ decoded_end (decode q d r)
   end-at Term e = end-term q r d some-level here e
   end-at Phrase e = end-phrase q r d some-level here e
   end-at Boolean e = end-clauses q r d some-level here e
@@ -214,11 +214,11 @@ module _ (q : List ℕ) (r d : ℕ) (deep : 1 ≤ d) (here : r < record_count q)
   end-at MatchNone e = end_none q r d some-level here e
   end-at PhraseTerm e = end-astray q r d (ap kind_of e)
 
-  pub end-by-kind : (kind : CodeKind) (below : ℕ) → below ≡ d - 1 → record_kind q r ≡ kind_number kind → (x : Answer ℕ) → x ≡ end_at q r below kind → x ≡ end_of (decode q d r)
+  pub end-by-kind : (kind : CodeKind) (below : ℕ) → below ≡ d - 1 → record_kind q r ≡ kind_number kind → (x : Answer ℕ) → x ≡ end_at q r below kind → x ≡ decoded_end (decode q d r)
   end-by-kind kind below b e x f = rw (f, b) (end-at kind e)
 
   -- the four kinds of a leaf
-  pub end-of-leaf : (kind : CodeKind) → ◌⊎◌ (kind ≡ Term) (◌⊎◌ (kind ≡ Range) (◌⊎◌ (kind ≡ MatchAll) (kind ≡ MatchNone))) → record_kind q r ≡ kind_number kind → fitting a_term q r (Some (r + 1)) ≡ end_of (decode q d r)
+  pub end-of-leaf : (kind : CodeKind) → ◌⊎◌ (kind ≡ Term) (◌⊎◌ (kind ≡ Range) (◌⊎◌ (kind ≡ MatchAll) (kind ≡ MatchNone))) → record_kind q r ≡ kind_number kind → fitting a_term q r (Some (r + 1)) ≡ decoded_end (decode q d r)
   end-of-leaf kind (inl k) e = end-at Term (e ∙ ap kind_number k)
   end-of-leaf kind (inr (inl k)) e = end-at Range (e ∙ ap kind_number k)
   end-of-leaf kind (inr (inr (inl k))) e = end-at MatchAll (e ∙ ap kind_number k)

@@ -12,25 +12,25 @@ use lib.ListN.{length}
 use borrow.Author.Tests.{ltb-false, eqb-true, eqb-false, not-false}
 use Rattle.meaning.specs.Query.{record_count, record_kind, record_children, record_occurrence, Decoded, decode, decode_query, query_tree, tree_of, guard, ◌>>=◌}
 use Rattle.meaning.specs.QueryRefusals.{wrong7, wrong_records}
-use Rattle.query.specs.Inner.{end_of}
+use Rattle.query.specs.Inner.{decoded_end}
 use Rattle.meaning.proofs.Tests.{or_left, or_right}
 use Rattle.query.proofs.Inverse.{bind-some, guard-some, both_true, phrase-at}
 use Rattle.query.proofs.Spans.{Stands, a-tree, a-phrase-term, tree-stands}
 
 -- 7 as the code asks it
-pub wrong7_parts : (q : List ℕ) → wrong7 q ≡ (not (eqb (length q % 9) 0) || eqb (record_count q) 0 || ltb 256 (record_count q) || not (eqb (record_occurrence q 0) 0) || not (option_eq eqb (end_of (decode q 16 0)) (Some (record_count q))))
+pub wrong7_parts : (q : List ℕ) → wrong7 q ≡ (not (eqb (length q % 9) 0) || eqb (record_count q) 0 || ltb 256 (record_count q) || not (eqb (record_occurrence q 0) 0) || not (option_eq eqb (decoded_end (decode q 16 0)) (Some (record_count q))))
 unfolding wrong7 decode_query wrong_records
 wrong7_parts q =
     go (not (eqb (length q % 9) 0) || eqb (record_count q) 0 || ltb 256 (record_count q)) (eqb (record_occurrence q 0) 0) (decode q 16 0)
   where
-    go : (a b : Bool) (o : Option Decoded) → (a || wrong_records q (guard b >>= λ ok. o)) ≡ (a || not b || not (option_eq eqb (end_of o) (Some (record_count q))))
+    go : (a b : Bool) (o : Option Decoded) → (a || wrong_records q (guard b >>= λ ok. o)) ≡ (a || not b || not (option_eq eqb (decoded_end o) (Some (record_count q))))
     go true b o = refl
     go false false o = refl
     go false true none = refl
     go false true (some D) = refl
 
 -- "records left over", where all else is right
-pub left_over : (q : List ℕ) (count : ℕ) (end : Answer ℕ) (r : Bool) → (not (eqb (length q % 9) 0) || eqb (record_count q) 0 || ltb 256 (record_count q) || not (eqb (record_occurrence q 0) 0)) ≡ false → count ≡ record_count q → end ≡ end_of (decode q 16 0) → r ≡ not (option_eq eqb end (Some count)) → r ≡ wrong7 q
+pub left_over : (q : List ℕ) (count : ℕ) (end : Answer ℕ) (r : Bool) → (not (eqb (length q % 9) 0) || eqb (record_count q) 0 || ltb 256 (record_count q) || not (eqb (record_occurrence q 0) 0)) ≡ false → count ≡ record_count q → end ≡ decoded_end (decode q 16 0) → r ≡ not (option_eq eqb end (Some count)) → r ≡ wrong7 q
 left_over q count end r e c d f = rw (wrong7_parts q, e, ← c, ← d) f
 
 module _ (q : List ℕ) where

@@ -53,7 +53,9 @@ IsOccur number o = MatchOption o (0 < number → 4 < number) (λ occur. number �
 
 -- the same of a conversion, whose error has the number
 abbrev pub DecodesKind : ℕ → Result Kind UnknownKind → Type 0
-DecodesKind number r = MatchResult r (λ kind. number ≡ kind_number kind) (λ e. (e.0 ≡ number) × (0 < number → 9 < number))
+DecodesKind number r =
+    MatchResult r (λ kind. number ≡ kind_number kind) (λ e. (e.0 ≡ number) × (0 < number → 9 < number))
 
 abbrev pub DecodesOccur : ℕ → Result Occur UnknownOccur → Type 0
-DecodesOccur number r = MatchResult r (λ occur. number ≡ occur_number occur) (λ e. (e.0 ≡ number) × (0 < number → 4 < number))
+DecodesOccur number r =
+    MatchResult r (λ occur. number ≡ occur_number occur) (λ e. (e.0 ≡ number) × (0 < number → 4 < number))

@@ -17,7 +17,7 @@ pub enum Kind {
     PhraseTerm,
 }
 
-// A number that is no kind's.
+// The number of a record of unknown kind.
 #[derive(Clone, Copy, Debug, PartialEq, Eq)]
 pub struct UnknownKind(pub u32);
 

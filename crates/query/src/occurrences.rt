@@ -26,7 +26,7 @@ impl Occur {
     }
 }
 
-// A number that is no occurrence's.
+// The number of a clause of unknown occurrence.
 #[derive(Clone, Copy, Debug, PartialEq, Eq)]
 pub struct UnknownOccur(pub u32);
 

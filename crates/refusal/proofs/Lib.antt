@@ -1,2 +1,2 @@
--- The laws that proofs of other crates cite.
+-- What the crates above cite of a refusal's number.
 pub mod Positive

@@ -1,4 +1,5 @@
--- Document 01, "Who causes which refusal": the number of each, and 15 and 16 of the token writer. Assumes nothing: these are definitions.
+-- Document 01, "Who causes which refusal": the number of each, and 15 and 16 of the token writer.
+-- Assumes nothing: these are definitions.
 use Rattle.std.specs.Prelude.{ℕ, Result, Ok, Err}
 use Rattle.refusal.specs.declared.Refusal.{Refusal}
 

@@ -4,10 +4,11 @@
 ghost use Rattle.std.specs.Prelude.{◌≡◌, ℕ, ◌+◌, ◌*◌, ◌≤◌, ◌<◌, length, MatchOption};
 ghost use Rattle.run.specs.Run.{document_at, Run, Lower, Between};
 
-// So many postings are looked at one after the other before the search takes longer steps.
+// How many postings are tried one by one before the search gallops.
 const NEAR: usize = 4;
 
-// Kept: no plainer as the method alone, which asks for a run that ascends, and this does not; who reads one or two documents makes no `Postings`.
+// Kept: no plainer as the method alone, which asks for a run that ascends, and this does not; who reads one or two
+// documents makes no `Postings`.
 pub fn document(words: &[u32], stride: usize, first: usize, i: usize) -> u32
     requires { (0 < stride) × (stride * (first + i) < length words.now) }
     ensures { result ≡ document_at words.now stride first i }
@@ -15,7 +16,7 @@ pub fn document(words: &[u32], stride: usize, first: usize, i: usize) -> u32
     words[stride * (first + i)]
 }
 
-// A run in its words: its documents ascend.
+// A run of records in the lent words; its documents ascend.
 #[derive(Clone, Copy)]
 pub struct Postings<'a> {
     pub words: &'a [u32],
@@ -35,7 +36,9 @@ impl Postings<'_> {
 
     // The document at a place, if the run goes so far.
     pub fn get(self, i: usize) -> Option<u32>
-        ensures { MatchOption result (self.entry.count ≤ i) (λ d. (i < self.entry.count) × (d ≡ document_at self.entry.words.now self.entry.stride self.entry.first i)) }
+        ensures { MatchOption result (self.entry.count ≤ i)
+            (λ d. (i < self.entry.count)
+            × (d ≡ document_at self.entry.words.now self.entry.stride self.entry.first i)) }
     {
         if i < self.count {
             Some(self.document(i))
@@ -44,12 +47,13 @@ impl Postings<'_> {
         }
     }
 
-    // By halves, between two places.
-    // Kept: no plainer: `lower` promises it for every stride, so there is no slice of records for `partition_point`; a method for 3 alone
-    // would be a second one.
+    // Binary search between two places.
+    // Kept: no plainer: `lower` promises it for every stride, so there is no slice of records for `partition_point`; a
+    // method for 3 alone would be a second one.
     fn halve(self, from: usize, to: usize, target: u32) -> usize
         requires { Between self.words.now self.stride self.first self.count from to target }
-        ensures { Lower self.entry.words.now self.entry.stride self.entry.first self.entry.count from target result }
+        ensures { Lower self.entry.words.now self.entry.stride self.entry.first self.entry.count
+            from target result }
     {
         let mut low = from;
         let mut high = to;
@@ -64,11 +68,12 @@ impl Postings<'_> {
         low
     }
 
-    // By steps that double, then by halves within the last one.
-    // Kept: no range goes by steps that double: `while` is no less plain.
+    // Galloping search: steps that double, then a binary search within the last one.
+    // Kept: `while`, since no range goes by steps that double.
     fn gallop(self, from: usize, target: u32) -> usize
         requires { from ≤ self.count }
-        ensures { Lower self.entry.words.now self.entry.stride self.entry.first self.entry.count from target result }
+        ensures { Lower self.entry.words.now self.entry.stride self.entry.first self.entry.count
+            from target result }
     {
         let mut low = from;
         let mut step = NEAR;
@@ -88,7 +93,8 @@ impl Postings<'_> {
     #[inline(always)]
     pub fn lower(self, from: usize, target: u32) -> usize
         requires { from ≤ self.count }
-        ensures { Lower self.entry.words.now self.entry.stride self.entry.first self.entry.count from target result }
+        ensures { Lower self.entry.words.now self.entry.stride self.entry.first self.entry.count
+            from target result }
     {
         let near = self.count.min(from + NEAR);
         for at in from..near {
@@ -101,7 +107,8 @@ impl Postings<'_> {
 }
 
 // The same for a caller that has the run's words and numbers.
-// Kept: no plainer as the method alone: who searches once has a run's words and numbers, and would make a `Postings` for that one call.
+// Kept: no plainer as the method alone: who searches once has a run's words and numbers, and would make a `Postings`
+// for that one call.
 pub fn lower(
     words: &[u32],
     stride: usize,

@@ -17,11 +17,11 @@ use Rattle.ieee754.proofs.Ranges.{add_is}
 use Rattle.ieee754.proofs.Bounds.{zero-atmost}
 use Rattle.ieee754.proofs.Narrowing.{narrow-fits, narrow_exact}
 use Rattle.ieee754.proofs.Successor.{zero-fits}
-use Rattle.weight.specs.ScorerTree.{Leaf, nothing, term, phrase, range, everything, leaf, boolean, Scorers, end, more, Joining, one_more, afterwards, with_group, scoring, joined_score, scorer_score, required_scores, optional_scores}
-use Rattle.weight.specs.State.{leaf_size, size_of, sizes_of}
-use Rattle.weight.specs.Sound.{nodes_of}
+use Rattle.tree_weight.specs.ScorerTree.{Leaf, nothing, term, phrase, range, everything, leaf, boolean, Scorers, end, more, Joining, one_more, afterwards, with_group, scoring, joined_score, scorer_score, required_scores, optional_scores}
+use Rattle.tree_weight.specs.State.{leaf_size, size_of, sizes_of}
+use Rattle.tree_weight.specs.Sound.{nodes_of}
 use Rattle.score.specs.Asked.{SumIs, JoinIs}
-use Rattle.leaf_score.proofs.Bounds.{scores-narrow, scores-more}
+use Rattle.score_leaf.proofs.Bounds.{scores-narrow, scores-more}
 use Rattle.score.proofs.Join.{first_of, rest_of, sum-append, with-group}
 
 -- ---- +0
@@ -36,6 +36,10 @@ zero-plus x h p =
     let a : num zero_float * den x + num x * den zero_float ≡ num x = omega arith in
     let b : den zero_float * den x ≡ den x = omega arith in
     add_is binary64 zero_float x tt p ∙ ap (λ (i : ℕ). round binary64 false i (den zero_float * den x)) a ∙ ap (λ (i : ℕ). round binary64 false (num x) i) b ∙ round-self binary64 x h p
+
+-- a binary32 value that is not negative, as a sum of it alone, is narrow already
+pub narrow-alone : (x : Float) → T (fits binary32 x) → T (nonneg x) → narrow (add binary64 zero_float x) ≡ x
+narrow-alone x h p = ap narrow (zero-plus x (fits_widens x h) p) ∙ narrow_exact x h
 
 pub zero-narrowed : zero_float ≡ narrow zero_float
 zero-narrowed = sym (narrow_exact zero_float zero-fits)
@@ -69,9 +73,9 @@ no-group ix d rs afterwards front all =
 -- a group that nothing is joined to
 pub group-alone : (j : Joining) (g : Float) → T (fits binary32 g) → T (nonneg g) → joined_score j [] g ≡ g
 unfolding joined_score narrowed_sum with_group scoring sum_from
-group-alone (one_more zero) g h p = ap narrow (zero-plus g (fits_widens g h) p) ∙ narrow_exact g h
-group-alone (one_more (suc n)) g h p = ap narrow (zero-plus g (fits_widens g h) p) ∙ narrow_exact g h
-group-alone afterwards g h p = ap narrow (ap (λ (z : Float). add binary64 z g) (sym zero-narrowed) ∙ zero-plus g (fits_widens g h) p) ∙ narrow_exact g h
+group-alone (one_more zero) g h p = narrow-alone g h p
+group-alone (one_more (suc n)) g h p = narrow-alone g h p
+group-alone afterwards g h p = ap narrow (ap (λ (z : Float). add binary64 z g) (sym zero-narrowed)) ∙ narrow-alone g h p
 
 -- ---- parts of no words are no parts
 leaf-long : (l : Leaf) → node_state_words ≤ leaf_size l

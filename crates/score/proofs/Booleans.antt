@@ -12,16 +12,16 @@ use Rattle.meaning.specs.Lent.{Index}
 use Rattle.meaning.specs.Ieee754.{zero_float, narrow, sum_from, narrowed_sum}
 use Rattle.ieee754.specs.Nonneg.{nonneg, AtMost}
 use Rattle.ieee754.proofs.Bounds.{atmost-number, zero-atmost}
-use Rattle.weight.specs.ScorerTree.{Scorers, end, more, Joining, one_more, afterwards, scoring, required_scores, optional_scores}
-use Rattle.weight.specs.State.{sizes_of, sizes_of_first}
-use Rattle.weight.specs.Held.{Oks}
-use Rattle.weight.specs.Sound.{nodes_of}
-use Rattle.node.specs.declared.Boolean.{Boolean}
-use Rattle.leaf_scorer.specs.declared.LeafReader.{LeafReader}
-use Rattle.score.specs.Asked.{Scorables, SumIs, RequiredPre, RequiredPost, OptionalPre, OptionalPost, JoinPre, JoinPost, JoinAsks, JoinIs, JoinsAt, PartsAre}
-use Rattle.leaf_score.specs.Asked.{LentAt}
-use Rattle.leaf_score.proofs.Bounds.{scores-narrow}
-use Rattle.leaf_scorer.proofs.Bounds.{oks-length}
+use Rattle.tree_weight.specs.ScorerTree.{Scorers, end, more, Joining, one_more, afterwards, scoring, required_scores, optional_scores}
+use Rattle.tree_weight.specs.State.{sizes_of, sizes_of_first}
+use Rattle.tree_weight.specs.Held.{Oks}
+use Rattle.tree_weight.specs.Sound.{nodes_of}
+use Rattle.tree_node.specs.declared.Boolean.{Boolean}
+use Rattle.scorer_leaf.specs.declared.LeafReader.{LeafReader}
+use Rattle.score.specs.Asked.{Scorables, SumIs, RequiredScorePre, RequiredScorePost, OptionalScorePre, OptionalScorePost, JoinPre, JoinPost, JoinAsks, JoinIs, JoinsAt, PartsAre}
+use Rattle.score_leaf.specs.Asked.{LentAt}
+use Rattle.score_leaf.proofs.Bounds.{scores-narrow}
+use Rattle.scorer_leaf.proofs.Bounds.{oks-length}
 use Rattle.score.proofs.Loops.{put}
 use Rattle.score.proofs.Small.{first_small, oks-weighted}
 use Rattle.score.proofs.Alone.{none_left, none-summed, joined-alone, joined-only}
@@ -103,10 +103,10 @@ module _ (kids : List ℕ) (node : Boolean) (reader : LeafReader) (places doc de
     group-ok : Oks ix reader.ranges.now os depth (take (node.optional_end - node.required_end) (drop node.required_end kids)) doc
     group-ok = subst (λ (w : List ℕ). Oks ix reader.ranges.now os depth w doc) (sym group-part) Q.optional-ok
 
-  pub group-asks : Pre → OptionalPre (take (node.optional_end - node.required_end) (drop node.required_end kids)) reader places doc depth
+  pub group-asks : Pre → OptionalScorePre (take (node.optional_end - node.required_end) (drop node.required_end kids)) reader places doc depth
   group-asks P = (P.0, P.3, P.5, P.6.optional, group-ok P.0 P.1 P.2 P.3 P.4 P.6 P.7)
 
-  pub grouped : (sum : Float) (ys : List ℕ) → OptionalPost (take (node.optional_end - node.required_end) (drop node.required_end kids)) reader places doc depth sum ys → Grouped kids node reader places doc depth sum (put kids node.required_end node.optional_end ys)
+  pub grouped : (sum : Float) (ys : List ℕ) → OptionalScorePost (take (node.optional_end - node.required_end) (drop node.required_end kids)) reader places doc depth sum ys → Grouped kids node reader places doc depth sum (put kids node.required_end node.optional_end ys)
   grouped sum ys post =
       record {
         of = λ ix j rs os rest L K Q.
@@ -145,11 +145,11 @@ module _ {kids : List ℕ} {node : Boolean} {reader : LeafReader} {places doc de
     all-ok : (ix : Index) (j : Joining) (rs os : Scorers) (rest : List ℕ) → JoinAsks ix reader.inverses.now places j rs os node doc → PartsAre ix reader.ranges.now rs os depth doc rest kids₁ → Oks ix reader.ranges.now rs depth (take node.required_end kids₁) doc
     all-ok ix j rs os rest K Q = subst (λ (w : List ℕ). Oks ix reader.ranges.now rs depth w doc) (sym (front-part Q.required (Q.optional ++ rest) kids₁ node.required_end Q.is (required-long K reader.ranges.now depth Q.required Q.required-ok))) Q.required-ok
 
-    pub after-asks : Asked → RequiredPre (take node.required_end kids₁) z reader places' doc depth
+    pub after-asks : Asked → RequiredScorePre (take node.required_end kids₁) z reader places' doc depth
     after-asks P =
         (P.0, P.2, 0, P.5, scorables-at same P.6.required, P.6.all, all-ok P.0 P.1 P.2 P.3 P.4 P.6 (G.of P.0 P.1 P.2 P.3 P.4 P.5 P.6 P.7).1, zero-small)
 
-    module _ (sum : Float) (ys : List ℕ) (post : RequiredPost (take node.required_end kids₁) z reader places' doc depth sum ys) where
+    module _ (sum : Float) (ys : List ℕ) (post : RequiredScorePost (take node.required_end kids₁) z reader places' doc depth sum ys) where
       after-sum : (ix : Index) (j : Joining) (rs os : Scorers) (rest : List ℕ) → LentAt ix reader.max_doc reader.postings.now reader.positions.now reader.norms.now doc → JoinAsks ix reader.inverses.now places j rs os node doc → PartsAre ix reader.ranges.now rs os depth doc rest kids → SumIs zero_float (scoring (required_scores ix rs doc)) (nodes_of rs) sum × Oks ix reader.ranges.now rs depth ys doc
       after-sum ix j rs os rest L K Q =
           let q = post ix rs 0 L (scorables-at same K.required) K.all (all-ok ix j rs os rest K (G.of ix j rs os rest L K Q).1) zero-small in
@@ -228,12 +228,12 @@ module _ {kids : List ℕ} {node : Boolean} {reader : LeafReader} {places doc de
       front-ok : (ix : Index) (j : Joining) (rs os : Scorers) (rest : List ℕ) (w : List ℕ) (k : Cut ix j rs os rest w) → Oks ix reader.ranges.now (first_of k.m rs) depth (take node.group_at w) doc
       front-ok ix j rs os rest w k = subst (λ (l : List ℕ). Oks ix reader.ranges.now (first_of k.m rs) depth l doc) (sym (front-part k.x (k.y ++ (k.v ++ rest)) w node.group_at k.is k.first-long)) k.first-ok
 
-      pub front-asks : Asked → RequiredPre (take node.group_at kids₁) z reader places' doc depth
+      pub front-asks : Asked → RequiredScorePre (take node.group_at kids₁) z reader places' doc depth
       front-asks P =
           let k = cut P.0 P.1 P.2 P.3 P.4 P.6 (G.of P.0 P.1 P.2 P.3 P.4 P.5 P.6 P.7).1 in
           (P.0, first_of k.m P.2, 0, P.5, first-scorables P.0 P.1 P.2 P.3 P.4 P.6 k.m, (first_matches P.0 doc k.m P.2 P.6.all).0, front-ok P.0 P.1 P.2 P.3 P.4 kids₁ k, zero-small)
 
-      module _ (front : Float) (xs : List ℕ) (long : length xs ≡ length (take node.group_at kids₁)) (post : RequiredPost (take node.group_at kids₁) z reader places' doc depth front xs) where
+      module _ (front : Float) (xs : List ℕ) (long : length xs ≡ length (take node.group_at kids₁)) (post : RequiredScorePost (take node.group_at kids₁) z reader places' doc depth front xs) where
         abbrev kids₂ : List ℕ
         kids₂ = xs ++ drop node.group_at kids₁
 
@@ -257,13 +257,13 @@ module _ {kids : List ℕ} {node : Boolean} {reader : LeafReader} {places doc de
           rest-small : (ix : Index) (j : Joining) (rs os : Scorers) (rest : List ℕ) → LentAt ix reader.max_doc reader.postings.now reader.positions.now reader.norms.now doc → JoinAsks ix reader.inverses.now places j rs os node doc → PartsAre ix reader.ranges.now rs os depth doc rest kids → (f : Front ix j rs os rest) → AtMost ((nodes_of (first_of f.parts.m rs) + nodes_of os) * 2 ^ 29) sum
           rest-small ix j rs os rest L K Q f = let o = group_of ix j rs os rest L K Q in joined-sum ix doc rs os K.few g o.0 o.1 f.parts.m front sum f.sum_is sum-of-two
 
-          pub rest-asks : Asked → RequiredPre (take (node.required_end - node.group_at) (drop node.group_at kids₂)) sum reader places'' doc depth
+          pub rest-asks : Asked → RequiredScorePre (take (node.required_end - node.group_at) (drop node.group_at kids₂)) sum reader places'' doc depth
           rest-asks P =
               let f = front_of P.0 P.1 P.2 P.3 P.4 P.5 P.6 P.7 in
               let k = f.parts in
               (P.0, rest_of k.m P.2, nodes_of (first_of k.m P.2) + nodes_of P.3, P.5, scorables-at same'' (rest-scorables P.0 P.1 P.2 P.3 P.4 P.6 k.m), (first_matches P.0 doc k.m P.2 P.6.all).1, rest_part P.0 P.1 P.2 P.3 P.4 k, rest-small P.0 P.1 P.2 P.3 P.4 P.5 P.6 P.7 f)
 
-          pub rest-done : (all : Float) (ys : List ℕ) → RequiredPost (take (node.required_end - node.group_at) (drop node.group_at kids₂)) sum reader places'' doc depth all ys → (r : Float) → r ≡ narrow all → JoinPost kids node reader places doc depth r (put kids₂ node.group_at node.required_end ys)
+          pub rest-done : (all : Float) (ys : List ℕ) → RequiredScorePost (take (node.required_end - node.group_at) (drop node.group_at kids₂)) sum reader places'' doc depth all ys → (r : Float) → r ≡ narrow all → JoinPost kids node reader places doc depth r (put kids₂ node.group_at node.required_end ys)
           rest-done all ys last r h ix j rs os rest L K Q =
               let f = front_of ix j rs os rest L K Q in
               let k = f.parts in

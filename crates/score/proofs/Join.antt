@@ -1,6 +1,7 @@
 -- A Boolean's required children before and after the place where its group joins. Assumes nothing.
+use Rattle.std.proofs.lemmas.Bool.{and_parts}
 use mathlib.Core.Path.{◌≡◌, refl, sym, ap, subst, ◌∙◌}
-use mathlib.Core.Bool.{Bool, true, false, cond, ◌&&◌, false≢true}
+use mathlib.Core.Bool.{Bool, true, cond, ◌&&◌}
 use mathlib.Core.List.{List, [], ◌∷◌, ◌++◌, append_assoc}
 use Prim.Native.Nat.{ℕ, zero, suc, ◌+◌, ◌*◌, ◌^◌, ◌≤◌}
 use native.Mathlib.Omega.{arith}
@@ -9,13 +10,13 @@ use lib.Ieee.{Float, binary64, add}
 use Rattle.meaning.specs.Lent.{Index}
 use Rattle.meaning.specs.Ieee754.{zero_float, narrow, sum_from, narrowed_sum}
 use Rattle.ieee754.specs.Nonneg.{AtMost}
-use Rattle.weight.specs.ScorerTree.{Scorers, end, more, matches, all_match, one_more, afterwards, joined_score, scorer_score, scoring, with_group, required_scores, optional_scores}
-use Rattle.weight.specs.State.{sizes_of_first}
-use Rattle.weight.specs.Held.{Oks}
-use Rattle.weight.specs.Sound.{Sounds, TablesOf, nodes_of}
+use Rattle.tree_weight.specs.ScorerTree.{Scorers, end, more, matches, all_match, one_more, afterwards, joined_score, scorer_score, scoring, with_group, required_scores, optional_scores}
+use Rattle.tree_weight.specs.State.{sizes_of_first}
+use Rattle.tree_weight.specs.Held.{Oks}
+use Rattle.tree_weight.specs.Sound.{Sounds, TablesOf, nodes_of}
 use Rattle.score.specs.Asked.{SumIs, JoinIs}
-use Rattle.leaf_score.proofs.Bounds.{scores-add, scores-narrow}
-use Rattle.leaf_scorer.proofs.Bounds.{ok-length}
+use Rattle.score_leaf.proofs.Bounds.{scores-add, scores-narrow}
+use Rattle.scorer_leaf.proofs.Bounds.{ok-length}
 
 -- the first n of some children, and the others
 unfoldable pub first_of : ℕ → Scorers → Scorers
@@ -27,10 +28,6 @@ unfoldable pub rest_of : ℕ → Scorers → Scorers
 rest_of zero ss = ss
 rest_of (suc n) end = end
 rest_of (suc n) (more f T g) = rest_of n g
-
-both : (a b : Bool) → a && b ≡ true → (a ≡ true) × (b ≡ true)
-both true b e = (refl, e)
-both false b e = absurd (false≢true e)
 
 and-true : (a b : Bool) → a ≡ true → b ≡ true → a && b ≡ true
 and-true a b e h = rw (e, h)
@@ -58,7 +55,7 @@ unfolding all_match first_of rest_of
 first_matches ix d zero ss p = (refl, p)
 first_matches ix d (suc n) end p = (refl, refl)
 first_matches ix d (suc n) (more f T g) p =
-    let a = both (matches ix T d) (all_match ix g d) p in
+    let a = and_parts (matches ix T d) (all_match ix g d) p in
     let q = first_matches ix d n g a.1 in
     (and-true (matches ix T d) (all_match ix (first_of n g) d) a.0 q.0, q.1)
 

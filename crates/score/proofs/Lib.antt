@@ -1,4 +1,5 @@
--- What the proofs of several functions use, and the laws that the crates above cite.
+-- A Boolean's score from its children's, loop by loop and call by call; and the bounds of a score, for the crates
+-- above.
 pub mod Parts
 pub mod Sums
 pub mod Join

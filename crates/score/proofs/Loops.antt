@@ -15,17 +15,17 @@ use Rattle.meaning.specs.First.{First}
 use Rattle.meaning.specs.Ieee754.{zero_float, sum_from}
 use Rattle.ieee754.specs.Nonneg.{AtMost}
 use Rattle.ieee754.proofs.Bounds.{atmost-number, zero-atmost}
-use Rattle.weight.specs.ScorerTree.{Scorer, Scorers, more, matches, all_match}
-use Rattle.weight.specs.Held.{Oks}
-use Rattle.weight.specs.Sound.{nodes_of}
-use Rattle.node.specs.Words.{ChildThere}
+use Rattle.tree_weight.specs.ScorerTree.{Scorer, Scorers, more, matches, all_match}
+use Rattle.tree_weight.specs.Held.{Oks}
+use Rattle.tree_weight.specs.Sound.{nodes_of}
+use Rattle.tree_node.specs.Words.{ChildThere}
 use Rattle.scorer.specs.Calls as scorer
-use Rattle.scorer.specs.Calls.{lent_of, RoomIn, NodeHeld, AdvancePre, AdvancePost}
-use Rattle.leaf_scorer.specs.declared.LeafReader.{LeafReader}
-use Rattle.leaf_scorer.specs.declared.PhraseBuffers.{PhraseBuffers}
-use Rattle.leaf_scorer.specs.Buffers.{places_in, SameBuffers}
-use Rattle.score.specs.Asked.{Scorables, RequiredPre, RequiredPost, OptionalPre, OptionalPost}
-use Rattle.leaf_score.specs.Asked.{LentAt, Scorable, ScorePre, ScorePost, TermPre, TermPost}
+use Rattle.scorer.specs.Calls.{lists_of, AdvancePre, AdvancePost}
+use Rattle.scorer_leaf.specs.declared.LeafReader.{LeafReader}
+use Rattle.scorer_leaf.specs.declared.PhraseBuffers.{PhraseBuffers}
+use Rattle.scorer_leaf.specs.Buffers.{places_in, SameBuffers}
+use Rattle.score.specs.Asked.{Scorables, RequiredScorePre, RequiredScorePost, OptionalScorePre, OptionalScorePost}
+use Rattle.score_leaf.specs.Asked.{LentAt, Scorable, ScorePre, ScorePost, TermScorePre, TermScorePost}
 use Rattle.score.proofs.Parts.{part_same}
 use Rattle.score.proofs.Sums.{counted, scores-word, matches-at, required-counted, optional-counted, required-matched, optional-matched, SumAt, sum-start, sum-end, sum-open, sum-there, sum-scores, sum-size, sum-kind, sum-scorable, sum-matched, sum-part, sum-part-kind, sum-renewed, sum-skipped, sum-took}
 
@@ -57,12 +57,12 @@ required-start {kids₀} {start} {reader} {places} {doc} {depth} = record { of =
 
 module _ {kids₀ : List ℕ} {start : Float} {reader : LeafReader} {places doc depth : ℕ} {kids : List ℕ} {at : ℕ} {sum : Float} (I : RequiredAt kids₀ start reader places doc depth kids at sum) where
   abbrev Asked : Type 0
-  Asked = RequiredPre kids₀ start reader places doc depth
+  Asked = RequiredScorePre kids₀ start reader places doc depth
 
   abbrev Again : List ℕ → ℕ → Float → Type 0
   Again kids at sum = RequiredAt kids₀ start reader places doc depth kids at sum
 
-  pub required-end : length kids ≤ at → RequiredPost kids₀ start reader places doc depth sum kids
+  pub required-end : length kids ≤ at → RequiredScorePost kids₀ start reader places doc depth sum kids
   required-end l ix ss p L S m o a =
       let i = I.of ix ss p L S m o a in
       let e = sum-end S.few i.0 i.1 l in
@@ -96,7 +96,7 @@ module _ {kids₀ : List ℕ} {start : Float} {reader : LeafReader} {places doc 
             let f : o.0 ≡ true = must-score o.0 (get_or kids (at + 15) 0) (sum-scores o.3) w in
             (ix, o.1, cond o.0 1 0, P.3, scorable-at same (sum-scorable o.3 P.4.few), sum-matched o.3 f, sum-part o.3 e stop)
 
-        pub required-term : get_or kids at 0 ≡ 1 → Asked → TermPre (take (e - at) (drop at kids)) reader.postings.now reader.norms.now reader.inverses.now doc
+        pub required-term : get_or kids at 0 ≡ 1 → Asked → TermScorePre (take (e - at) (drop at kids)) reader.postings.now reader.norms.now reader.inverses.now doc
         required-term t P =
             let ix = P.0 in
             let ss = P.1 in
@@ -120,7 +120,7 @@ module _ {kids₀ : List ℕ} {start : Float} {reader : LeafReader} {places doc 
               }
 
         -- a term's part stays as it is
-        pub required-term-took : (r : Float) → TermPost (take (e - at) (drop at kids)) reader.postings.now reader.norms.now reader.inverses.now doc r → (sum' : Float) → sum' ≡ add binary64 sum r → Again kids e sum'
+        pub required-term-took : (r : Float) → TermScorePost (take (e - at) (drop at kids)) reader.postings.now reader.norms.now reader.inverses.now doc r → (sum' : Float) → sum' ≡ add binary64 sum r → Again kids e sum'
         required-term-took r post sum' s = subst (λ (l : List ℕ). Again l e sum') (part_same kids at e) (required-took r (take (e - at) (drop at kids)) (post reader.max_doc reader.positions.now reader.ranges.now places' depth) sum' s)
 
 -- the optional children before the place that stand at the document are summed
@@ -152,9 +152,9 @@ optional-start {kids₀} {reader} {places} {doc} {depth} {x} e =
 
 module _ {kids₀ : List ℕ} {reader : LeafReader} {places doc depth : ℕ} {kids : List ℕ} {at : ℕ} {sum : Float} (I : OptionalAt kids₀ reader places doc depth kids at sum) where
   abbrev AskedOptional : Type 0
-  AskedOptional = OptionalPre kids₀ reader places doc depth
+  AskedOptional = OptionalScorePre kids₀ reader places doc depth
 
-  pub optional-end : length kids ≤ at → OptionalPost kids₀ reader places doc depth sum kids
+  pub optional-end : length kids ≤ at → OptionalScorePost kids₀ reader places doc depth sum kids
   optional-end l ix ss L S o =
       let i = I.of ix ss L S o in
       let e = sum-end (few-0 S) i.0 i.1 l in
@@ -169,23 +169,23 @@ module _ {kids₀ : List ℕ} {reader : LeafReader} {places doc depth : ℕ} {ki
         let o = opened P.0 P.1 P.2 P.3 P.4 in
         sum-there o.3
 
-    module _ {e : ℕ} (stop : e ≡ at + get_or kids (at + 1) 0) (a b : ℕ) (same : min a b ≡ places) where
-      pub optional-ask : AskedOptional → AdvancePre (lent_of reader) a b (take (e - at) (drop at kids)) doc depth
+    module _ {e : ℕ} (stop : e ≡ at + get_or kids (at + 1) 0) (starts other_starts : ℕ) (same : min starts other_starts ≡ places) where
+      pub optional-ask : AskedOptional → AdvancePre (lists_of reader) starts other_starts (take (e - at) (drop at kids)) doc depth
       optional-ask P =
           let ix = P.0 in
           let ss = P.1 in
           let o = opened ix ss P.2 P.3 P.4 in
-          (omega (arith, P.2.document, P.2.lends.documents, P.2.lends.accepted.documents), (ix, places, o.1, cond o.0 1 0, record { in-a = omega arith; in_b = omega arith }, record { lends = P.2.lends; sound = (sum-scorable o.3 (few-0 P.3)).sound; ok = sum-part o.3 e stop }))
+          (omega (arith, P.2.document, P.2.lends.documents, P.2.lends.accepted.documents), (ix, places, o.1, cond o.0 1 0, record { in-starts = omega arith; in-other = omega arith }, record { lends = P.2.lends; sound = (sum-scorable o.3 (few-0 P.3)).sound; ok = sum-part o.3 e stop }))
 
-      pub optional-term-ask : get_or kids at 0 ≡ 1 → AskedOptional → scorer.TermPre reader.postings.now (take (e - at) (drop at kids)) doc
+      pub optional-term-ask : get_or kids at 0 ≡ 1 → AskedOptional → scorer.AdvanceTermPre reader.postings.now (take (e - at) (drop at kids)) doc
       optional-term-ask t P =
           let ix = P.0 in
           let ss = P.1 in
           let o = opened ix ss P.2 P.3 P.4 in
           let q = optional-ask P in
-          (q.0, sum-part-kind o.3 e stop ∙ sym (sum-kind o.3) ∙ t, (lent_of reader, refl, q.1.0, q.1.1, q.1.2, depth, q.1.3, q.1.5))
+          (q.0, sum-part-kind o.3 e stop ∙ sym (sum-kind o.3) ∙ t, (lists_of reader, refl, q.1.0, q.1.1, q.1.2, depth, q.1.3, q.1.5))
 
-      module _ (r : ℕ) (ys : List ℕ) (post : AdvancePost (lent_of reader) (take (e - at) (drop at kids)) doc depth r ys) where
+      module _ (r : ℕ) (ys : List ℕ) (post : AdvancePost (lists_of reader) (take (e - at) (drop at kids)) doc depth r ys) where
         -- what is known of the child after advance
         pub record Moved (ix : Index) (ss : Scorers) : Type 0 where
           pub f : Bool
@@ -240,7 +240,7 @@ module _ {kids₀ : List ℕ} {reader : LeafReader} {places doc depth : ℕ} {ki
             before a b g w = ⊎_elim (λ q. absurd (w (sym q))) (λ q. q) (eq-or-lt_of_le g)
 
 module _ {kids₀ : List ℕ} {reader : LeafReader} {places doc depth : ℕ} {kids : List ℕ} {at e : ℕ} {sum : Float} (I : OptionalMid kids₀ reader places doc depth kids at e sum) {places' : ℕ} (same : places' ≡ places) where
-  pub optional-child : OptionalPre kids₀ reader places doc depth → ScorePre (take (e - at) (drop at kids)) reader.max_doc reader.postings.now reader.positions.now reader.norms.now reader.ranges.now reader.inverses.now places' doc depth
+  pub optional-child : OptionalScorePre kids₀ reader places doc depth → ScorePre (take (e - at) (drop at kids)) reader.max_doc reader.postings.now reader.positions.now reader.norms.now reader.ranges.now reader.inverses.now places' doc depth
   optional-child P =
       let ix = P.0 in
       let ss = P.1 in
@@ -248,7 +248,7 @@ module _ {kids₀ : List ℕ} {reader : LeafReader} {places doc depth : ℕ} {ki
       (ix, m.S, cond m.f 1 0, P.2, scorable-at same (sum-scorable m.at-child (few-0 P.3)), m.match, sum-part m.at-child e m.stop)
 
   module _ (r : Float) (ys : List ℕ) (post : ScorePost (take (e - at) (drop at kids)) reader.max_doc reader.postings.now reader.positions.now reader.norms.now reader.ranges.now reader.inverses.now places' doc depth r ys) where
-    pub optional-number : OptionalPre kids₀ reader places doc depth → T (not (is_nan r))
+    pub optional-number : OptionalScorePre kids₀ reader places doc depth → T (not (is_nan r))
     optional-number P = let q = optional-child P in atmost-number (post q.0 q.1 q.2 q.3 q.4 q.5 q.6).0.small
 
     pub optional-took : (sum' : Float) → sum' ≡ add binary64 sum r → OptionalAt kids₀ reader places doc depth (put kids at e ys) e sum'
@@ -263,5 +263,5 @@ module _ {kids₀ : List ℕ} {reader : LeafReader} {places doc depth : ℕ} {ki
         }
 
   -- a term's part stays as it is
-  pub optional-term-took : (r : Float) → TermPost (take (e - at) (drop at kids)) reader.postings.now reader.norms.now reader.inverses.now doc r → (sum' : Float) → sum' ≡ add binary64 sum r → OptionalAt kids₀ reader places doc depth kids e sum'
+  pub optional-term-took : (r : Float) → TermScorePost (take (e - at) (drop at kids)) reader.postings.now reader.norms.now reader.inverses.now doc r → (sum' : Float) → sum' ≡ add binary64 sum r → OptionalAt kids₀ reader places doc depth kids e sum'
   optional-term-took r post sum' s = subst (λ (l : List ℕ). OptionalAt kids₀ reader places doc depth l e sum') (part_same kids at e) (optional-took r (take (e - at) (drop at kids)) (post reader.max_doc reader.positions.now reader.ranges.now places' depth) sum' s)

@@ -1,6 +1,7 @@
--- The score of a node that is a Boolean. Assumes nothing.
-use mathlib.Core.Path.{◌≡◌, refl, sym, ap, subst, ◌∙◌}
-use mathlib.Core.Bool.{Bool, true, false, not, cond, ◌&&◌, false≢true}
+-- A Boolean's node: what its record says of its children's parts, and its score from theirs. Assumes nothing.
+use Rattle.std.proofs.lemmas.Bool.{and_parts}
+use mathlib.Core.Path.{◌≡◌, sym, ap, subst, ◌∙◌}
+use mathlib.Core.Bool.{Bool, true, not, cond, ◌&&◌}
 use mathlib.Core.List.{List, ◌++◌, append-nil}
 use mathlib.Core.Option.{none, some}
 use Prim.Native.Nat.{ℕ, ◌+◌, ◌-◌, ◌*◌, ◌^◌, ◌≤◌, ◌<◌, max}
@@ -13,37 +14,26 @@ use Rattle.meaning.specs.Limits.{node_state_words}
 use Rattle.meaning.specs.Lent.{Index}
 use Rattle.ieee754.specs.Nonneg.{AtMost}
 use Rattle.ieee754.proofs.Bounds.{atmost-more}
-use Rattle.weight.specs.ScorerTree.{Leaf, nothing, term, phrase, range, everything, Joining, one_more, afterwards, Scorer, leaf, boolean, Scorers, matches, all_match, any_matches, matching, scorer_score}
-use Rattle.weight.specs.State.{State, words_of}
-use Rattle.weight.specs.Held.{LeafIs, KeptIs, JoiningIs, Ok, Oks}
-use Rattle.weight.specs.Sound.{Sound, Tables, nodes, nodes_of}
-use Rattle.node.specs.declared.Boolean.{Boolean}
-use Rattle.node.specs.Words.{BooleanIs}
-use Rattle.leaf_score.specs.declared.ScoreNode.{ScoreNode}
-use Rattle.leaf_score.specs.Words.{ScoreNodeIs}
+use Rattle.tree_weight.specs.ScorerTree.{Joining, one_more, afterwards, Scorer, leaf, boolean, Scorers, matches, all_match, any_matches, matching, scorer_score}
+use Rattle.tree_weight.specs.State.{State, words_of}
+use Rattle.tree_weight.specs.Held.{KeptIs, JoiningIs, Ok, Oks}
+use Rattle.tree_weight.specs.Sound.{Sound, Tables, nodes, nodes_of}
+use Rattle.tree_node.specs.declared.Boolean.{Boolean}
+use Rattle.tree_node.specs.Words.{BooleanRead}
+use Rattle.score_leaf.specs.declared.ScoreNode.{ScoreNode}
+use Rattle.score_leaf.specs.Words.{ScoreNodeIs}
 use Rattle.score.specs.Asked.{JoinAsks, JoinIs, JoinsAt, PartsAre}
-use Rattle.leaf_score.specs.Asked.{Scorable, ScoreIs}
-use Rattle.leaf_score.proofs.Nodes.{at-most-there}
-use Rattle.leaf_score.proofs.Leaves.{read, kind-read}
-
-leaf-kind : (ix : Index) (ranges : List ℕ) (l : Leaf) (s : State) (v : List ℕ) (b : ℕ) → LeafIs ix ranges l s v b → s.kind ≡ 3 → ⊥
-unfolding LeafIs
-leaf-kind ix ranges nothing s v b p e = omega (arith, p.0)
-leaf-kind ix ranges (term l) s v b p e = omega (arith, p.0.kind-is)
-leaf-kind ix ranges (phrase f ts) s v b p e = omega (arith, p.kind-is)
-leaf-kind ix ranges (range r) s v b p e = omega (arith, p.0.kind-is)
-leaf-kind ix ranges everything s v b p e = omega (arith, p.0)
-
-both : (a b : Bool) → a && b ≡ true → (a ≡ true) × (b ≡ true)
-both true b e = (refl, e)
-both false b e = absurd (false≢true e)
+use Rattle.score_leaf.specs.Asked.{Scorable, ScoreIs}
+use Rattle.score_leaf.proofs.Nodes.{at-most-there}
+use Rattle.score_leaf.proofs.Leaves.{read, kind-read}
+use Rattle.scorer.proofs.Nodes.{leaf-kind}
 
 pub joins_at : (j : Joining) (rs : Scorers) (s : State) (a : Bool) (b : ℕ) → a ≡ eqb s.afterwards 1 → b ≡ s.group_at → JoiningIs j rs s → JoinsAt j rs (cond a 1 0) b
 unfolding JoiningIs JoinsAt
 joins_at (one_more n) rs s a b e f p = (ap (λ (x : Bool). cond x 1 0) (e ∙ ap (λ (i : ℕ). eqb i 1) p.0), f ∙ p.1)
 joins_at afterwards rs s a b e f p = ap (λ (x : Bool). cond x 1 0) (e ∙ ap (λ (i : ℕ). eqb i 1) p)
 
-module _ (ix : Index) (ranges : List ℕ) (table : List Float) (places k doc : ℕ) (st : List ℕ) (n : ScoreNode) (N : ScoreNodeIs st n) (m : Boolean) (M : BooleanIs st m) where
+module _ (ix : Index) (ranges : List ℕ) (table : List Float) (places k doc : ℕ) (states : List ℕ) (n : ScoreNode) (N : ScoreNodeIs states n) (m : Boolean) (M : BooleanRead states m) where
   -- a Boolean
   pub record NodeAt (T : Scorer) (sc : ℕ) (kids : List ℕ) : Type 0 where
     pub j : Joining
@@ -53,19 +43,19 @@ module _ (ix : Index) (ranges : List ℕ) (table : List Float) (places k doc : �
     pub deep : 0 < k
     pub asks : JoinAsks ix table places j rs os m doc
     pub parts : PartsAre ix ranges rs os (k - 1) doc rest kids
-    pub done : (r : Float) (kids' : List ℕ) → length kids' ≡ length kids → JoinIs ix j rs os doc r → PartsAre ix ranges rs os (k - 1) doc rest kids' → ScoreIs ix T doc r × Ok ix ranges T k sc (take node_state_words st ++ (kids' ++ drop (length st - node_state_words) (drop node_state_words st))) doc
+    pub done : (r : Float) (kids' : List ℕ) → length kids' ≡ length kids → JoinIs ix j rs os doc r → PartsAre ix ranges rs os (k - 1) doc rest kids' → ScoreIs ix T doc r × Ok ix ranges T k sc (take node_state_words states ++ (kids' ++ drop (length states - node_state_words) (drop node_state_words states))) doc
 
-  pub score_node_at : (T : Scorer) (sc : ℕ) → Scorable ix table places T → matches ix T doc ≡ true → Ok ix ranges T k sc st doc → (n.constant ≡ 1 → ⊥) → get_or st 0 0 ≡ 3 → NodeAt T sc (take (length st - node_state_words) (drop node_state_words st))
+  pub score_node_at : (T : Scorer) (sc : ℕ) → Scorable ix table places T → matches ix T doc ≡ true → Ok ix ranges T k sc states doc → (n.constant ≡ 1 → ⊥) → get_or states 0 0 ≡ 3 → NodeAt T sc (take (length states - node_state_words) (drop node_state_words states))
   unfolding Ok KeptIs scorer_score nodes matches Sound Tables
-  score_node_at (leaf l c) sc g y p i h = absurd (leaf-kind ix ranges l p.0 p.1 (max doc (p.0.cached - 1)) p.4 (sym (kind-read st p.1 p.0 p.2) ∙ h))
-  score_node_at (boolean (some c) j need rs os ps) sc g y p i h = let R = read st (p.1 ++ (p.2 ++ p.3)) p.0 n p.4 N in absurd (i (R.constant-is ∙ p.7.kept.0))
+  score_node_at (leaf l c) sc g y p i h = absurd (leaf-kind ix ranges l p.0 p.1 (max doc (p.0.cached - 1)) p.4 (sym (kind-read states p.1 p.0 p.2) ∙ h))
+  score_node_at (boolean (some c) j need rs os ps) sc g y p i h = let R = read states (p.1 ++ (p.2 ++ p.3)) p.0 n p.4 N in absurd (i (R.constant-is ∙ p.7.kept.0))
   score_node_at (boolean none j need rs os ps) sc g y p i h =
       let S : Scorer = boolean none j need rs os ps in
       let b : max doc (p.0.cached - 1) ≡ doc = at-most-there (matches ix S) doc p.0.cached y p.8 in
       let w : List ℕ = p.1 ++ (p.2 ++ p.3) in
-      let q : length st - node_state_words ≡ length w = omega (arith, ap length p.4) in
-      let same : take (length st - node_state_words) (drop node_state_words st) ≡ w = rw (q, p.4, take-length) in
-      let all : all_match ix rs doc ≡ true = (both (all_match ix rs doc) (not (any_matches ix ps doc)) (both (all_match ix rs doc && not (any_matches ix ps doc)) (leb need (matching ix os doc)) y).0).0 in
+      let q : length states - node_state_words ≡ length w = omega (arith, ap length p.4) in
+      let same : take (length states - node_state_words) (drop node_state_words states) ≡ w = rw (q, p.4, take-length) in
+      let all : all_match ix rs doc ≡ true = (and_parts (all_match ix rs doc) (not (any_matches ix ps doc)) (and_parts (all_match ix rs doc && not (any_matches ix ps doc)) (leb need (matching ix os doc)) y).0).0 in
       record {
         j = j;
         rs = rs;

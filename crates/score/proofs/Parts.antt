@@ -8,11 +8,11 @@ use lib.ListN.{get_or, length, take, drop, length-append, length-take, length-dr
 use lib.Seq.{take_at, drop_at, get_or-append-add}
 use Rattle.meaning.specs.Limits.{node_state_words}
 use Rattle.meaning.specs.Lent.{Index}
-use Rattle.weight.specs.ScorerTree.{Leaf, nothing, term, phrase, range, everything, Scorer, leaf, boolean, Scorers, end, more}
-use Rattle.weight.specs.State.{State, words_of, size_of}
-use Rattle.weight.specs.Held.{LeafIs, Ok, Oks}
-use Rattle.leaf_scorer.proofs.Bounds.{leaf-sizes, ok-length, ok-long}
-use Rattle.node.specs.Words.{ChildThere}
+use Rattle.tree_weight.specs.ScorerTree.{Leaf, nothing, term, phrase, range, everything, Scorer, leaf, boolean, Scorers, end, more}
+use Rattle.tree_weight.specs.State.{State, words_of, size_of}
+use Rattle.tree_weight.specs.Held.{LeafIs, Ok, Oks}
+use Rattle.scorer_leaf.proofs.Bounds.{leaf-sizes, ok-length, ok-long}
+use Rattle.tree_node.specs.Words.{ChildThere}
 
 -- ---- the kind in the first word of a scorer's part
 unfoldable pub leaf_kind : Leaf → ℕ

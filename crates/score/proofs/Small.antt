@@ -21,12 +21,12 @@ use Rattle.ieee754.proofs.Successor.{zero-fits}
 use Rattle.sim.proofs.ScoreBounds.{any-score-atmost}
 use Rattle.index.specs.Accepted.{Accepted}
 use Rattle.index.proofs.PostingAt.{posting-is}
-use Rattle.weight.specs.ScorerTree.{Leaf, nothing, term, phrase, range, everything, Scoring, constant, weighted, Joining, one_more, afterwards, Scorer, leaf, boolean, Scorers, end, more, leaf_score, scoring, joined_score, scorer_score, required_scores, optional_scores}
-use Rattle.weight.specs.Held.{FloatIs, ScoringIs, KeptIs, Ok, Oks}
-use Rattle.weight.specs.Sound.{LeafSound, Sound, Sounds, nodes, nodes_of}
-use Rattle.weight.proofs.Weights.{Fine, ScoringFine, Weighted, WeightedAll}
-use Rattle.leaf_score.proofs.Bounds.{scores-add, scores-narrow, scores-more}
-use Rattle.leaf_score.proofs.Frequencies.{phrase-frequency-few}
+use Rattle.tree_weight.specs.ScorerTree.{Leaf, nothing, term, phrase, range, everything, Scoring, constant, weighted, Joining, one_more, afterwards, Scorer, leaf, boolean, Scorers, end, more, leaf_score, scoring, joined_score, scorer_score, required_scores, optional_scores}
+use Rattle.tree_weight.specs.Held.{FloatIs, ScoringIs, KeptIs, Ok, Oks}
+use Rattle.tree_weight.specs.Sound.{LeafSound, Sound, Sounds, nodes, nodes_of}
+use Rattle.tree_weight.proofs.Weights.{Fine, ScoringFine, Weighted, WeightedAll}
+use Rattle.score_leaf.proofs.Bounds.{scores-add, scores-narrow, scores-more}
+use Rattle.score_leaf.proofs.Frequencies.{phrase-frequency-few}
 use Rattle.score.proofs.Sums.{counted, scores-word, matches-at, required-counted, optional-counted}
 use Rattle.score.proofs.Join.{first_of, rest_of, first-nodes, joined-sum, joined-more, joined-after}
 

@@ -1,6 +1,7 @@
 -- A loop over the parts of some children that adds up the scores of those that count. Assumes nothing.
+use Rattle.std.proofs.lemmas.Bool.{and_parts}
 use mathlib.Core.Path.{◌≡◌, refl, ap}
-use mathlib.Core.Bool.{Bool, true, false, cond, ◌&&◌, false≢true}
+use mathlib.Core.Bool.{Bool, true, false, cond}
 use mathlib.Core.List.{List, [], ◌∷◌, ◌++◌}
 use Prim.Native.Nat.{ℕ, ◌+◌, ◌-◌, ◌*◌, ◌^◌, ◌≤◌, ◌<◌}
 use native.Mathlib.Nat.{le_refl}
@@ -10,13 +11,13 @@ use lib.Ieee.{Float, binary64, add}
 use Rattle.meaning.specs.Lent.{Index}
 use Rattle.meaning.specs.Ieee754.{sum_from}
 use Rattle.ieee754.specs.Nonneg.{AtMost}
-use Rattle.weight.specs.ScorerTree.{Scorer, Scorers, end, more, matches, all_match, scorer_score, scoring, required_scores, optional_scores}
-use Rattle.weight.specs.State.{size_of}
-use Rattle.weight.specs.Held.{Ok, Oks}
-use Rattle.weight.specs.Sound.{Sounds, TablesOf, nodes, nodes_of}
-use Rattle.node.specs.Words.{ChildThere}
-use Rattle.leaf_score.specs.Asked.{Scorable, ScoreIs}
-use Rattle.leaf_score.proofs.Bounds.{scores-add, scores-more}
+use Rattle.tree_weight.specs.ScorerTree.{Scorer, Scorers, end, more, matches, all_match, scorer_score, scoring, required_scores, optional_scores}
+use Rattle.tree_weight.specs.State.{size_of}
+use Rattle.tree_weight.specs.Held.{Ok, Oks}
+use Rattle.tree_weight.specs.Sound.{Sounds, TablesOf, nodes, nodes_of}
+use Rattle.tree_node.specs.Words.{ChildThere}
+use Rattle.score_leaf.specs.Asked.{Scorable, ScoreIs}
+use Rattle.score_leaf.proofs.Bounds.{scores-add, scores-more}
 use Rattle.score.proofs.Parts.{Zip, zip_start, zip_end, zip-none, zip-next, zip-renewed, kind_word, ok-kind, view, child-there, part-ok}
 
 -- the scores of the children that count
@@ -46,14 +47,10 @@ unfolding counted optional_scores
 optional-counted ix end d = refl
 optional-counted ix (more f T g) d = ap (λ (l : List Float). cond (matches ix T d) (scorer_score ix T d ∷ []) [] ++ l) (optional-counted ix g d)
 
-both : (a b : Bool) → a && b ≡ true → (a ≡ true) × (b ≡ true)
-both true b e = (refl, e)
-both false b e = absurd (false≢true e)
-
 pub required-matched : (ix : Index) (ss : Scorers) (d : ℕ) → all_match ix ss d ≡ true → Matched scores-word ix ss d
 unfolding Matched all_match
 required-matched ix end d e = tt
-required-matched ix (more f T g) d e = let p = both (matches ix T d) (all_match ix g d) e in ((λ h. p.0), required-matched ix g d p.1)
+required-matched ix (more f T g) d e = let p = and_parts (matches ix T d) (all_match ix g d) e in ((λ h. p.0), required-matched ix g d p.1)
 
 pub optional-matched : (ix : Index) (ss : Scorers) (d : ℕ) → Matched (matches-at ix d) ix ss d
 unfolding Matched

@@ -1,2 +1,2 @@
--- What the contracts of this crate name beside the definitions of `meaning` and `weight`.
+-- What the contracts of this crate name beside the definitions of `meaning` and `tree_weight`.
 pub mod Asked

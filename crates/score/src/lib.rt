@@ -1,38 +1,43 @@
 // The score of a document at the scorers in the lent words.
 #![tactic(auto)]
 
-ghost use Rattle.leaf_scorer.specs.Buffers.{places_in, SameBuffers};
-ghost use Rattle.score.specs.Asked.{RequiredPre, RequiredPost, OptionalPre, OptionalPost, JoinPre, JoinPost};
-ghost use Rattle.leaf_score.specs.Asked.{ScorePre, ScorePost};
+ghost use Rattle.scorer_leaf.specs.Buffers.{places_in, SameBuffers};
+ghost use Rattle.score.specs.Asked.{RequiredScorePre, RequiredScorePost, OptionalScorePre, OptionalScorePost, JoinPre, JoinPost};
+ghost use Rattle.score_leaf.specs.Asked.{ScorePre, ScorePost};
 
-use leaf_score::{leaf_score, score_node_at, term_score};
-use leaf_scorer::{LeafReader, PhraseBuffers};
-use node::{Boolean, NodeKind, boolean_at, child_at};
-use weight::NODE_STATE_WORDS;
+use score_leaf::{leaf_score, score_node_at, term_score};
+use scorer_leaf::{LeafReader, PhraseBuffers};
+use tree_node::{Boolean, NodeKind, boolean_at, child_at};
+use tree_weight::NODE_STATE_WORDS;
+use tree_weight::layout::KIND;
 
 // The score of the document where the node matches it. The children were left at it or before it.
-// Kept: no plainer as one struct of the two, here and below: of them only `buffers` is lent for writing; with the reader in it, each clause would
-// also say that it stays.
+// Kept: no plainer as one struct of the two, here and below: of them only `buffers` is lent for writing; with the
+// reader in it, each clause would also say that it stays.
 #[cycle(joined_optional_required_score)]
 pub fn score(
-    st: &mut [u32],
+    states: &mut [u32],
     reader: &LeafReader<'_>,
     buffers: &mut PhraseBuffers<'_>,
     doc: u32,
     depth: u32,
 ) -> f32
-    requires { ScorePre st.old reader.now.max_doc reader.now.postings.now reader.now.positions.now reader.now.norms.now reader.now.ranges.now reader.now.inverses.now (places_in buffers.old) doc depth }
-    ensures score_post { ScorePost st.old reader.now.max_doc reader.now.postings.now reader.now.positions.now reader.now.norms.now reader.now.ranges.now reader.now.inverses.now (places_in buffers.old) doc depth result st.new }
+    requires { ScorePre states.old reader.now.max_doc reader.now.postings.now
+        reader.now.positions.now reader.now.norms.now reader.now.ranges.now reader.now.inverses.now
+        (places_in buffers.old) doc depth }
+    ensures score_post { ScorePost states.old reader.now.max_doc reader.now.postings.now
+        reader.now.positions.now reader.now.norms.now reader.now.ranges.now reader.now.inverses.now
+        (places_in buffers.old) doc depth result states.new }
     ensures same_buffers { SameBuffers buffers.old buffers.new }
 {
-    if let Some(score) = score_node_at(st).constant_score() {
+    if let Some(score) = score_node_at(states).constant_score() {
         return score;
     }
-    match NodeKind::from(st[0]) {
+    match NodeKind::from(states[KIND]) {
         NodeKind::Boolean => {
-            let n = boolean_at(st);
+            let n = boolean_at(states);
             joined(
-                &mut st[NODE_STATE_WORDS..],
+                &mut states[NODE_STATE_WORDS..],
                 n,
                 reader,
                 buffers,
@@ -40,11 +45,12 @@ pub fn score(
                 depth - 1,
             )
         }
-        _ => leaf_score(st, reader, buffers, doc),
+        _ => leaf_score(states, reader, buffers, doc),
     }
 }
 
-// A Boolean's score: its group joins the required sum as one more, or after that is narrowed. One that is alone has nothing to join.
+// A Boolean's score: the Should sum joins the Must sum as one more summand, or after that is narrowed. Without Should
+// clauses the Must sum is the score, and without Must clauses the Should sum is.
 #[cycle(joined_optional_required_score)]
 fn joined(
     kids: &mut [u32],
@@ -95,13 +101,14 @@ fn required(
     doc: u32,
     depth: u32,
 ) -> f64
-    requires { RequiredPre kids.old start reader.now (places_in buffers.old) doc depth }
-    ensures required_post { RequiredPost kids.old start reader.now (places_in buffers.old) doc depth result kids.new }
+    requires { RequiredScorePre kids.old start reader.now (places_in buffers.old) doc depth }
+    ensures required_post { RequiredScorePost kids.old start reader.now (places_in buffers.old) doc depth
+        result kids.new }
     ensures same_buffers { SameBuffers buffers.old buffers.new }
 {
     let mut sum = start;
     let mut at = 0;
-    // Kept: no plainer: parts differ in length and are lent for writing, so an iterator would hold `kids` and `at` itself.
+    // Kept: parts differ in length and are lent for writing, so an iterator would hold `kids` and `at` itself.
     while at < kids.len() {
         let child = child_at(kids, at);
         let end = child.end;
@@ -135,13 +142,14 @@ fn optional(
     doc: u32,
     depth: u32,
 ) -> f64
-    requires { OptionalPre kids.old reader.now (places_in buffers.old) doc depth }
-    ensures optional_post { OptionalPost kids.old reader.now (places_in buffers.old) doc depth result kids.new }
+    requires { OptionalScorePre kids.old reader.now (places_in buffers.old) doc depth }
+    ensures optional_post { OptionalScorePost kids.old reader.now (places_in buffers.old) doc depth
+        result kids.new }
     ensures same_buffers { SameBuffers buffers.old buffers.new }
 {
     let mut sum = 0.0;
     let mut at = 0;
-    // Kept: no plainer: parts differ in length and are lent for writing, so an iterator would hold `kids` and `at` itself.
+    // Kept: parts differ in length and are lent for writing, so an iterator would hold `kids` and `at` itself.
     while at < kids.len() {
         let child = child_at(kids, at);
         let end = child.end;

@@ -1,4 +1,4 @@
--- A place in the parts of some children. Assumes nothing.
+-- A loop's place among the parts of some children: those left, and how those passed are put back. Assumes nothing.
 use mathlib.Core.Path.{◌≡◌, refl, sym, ap, ◌∙◌}
 use mathlib.Core.Bool.{Bool, cond}
 use mathlib.Core.List.{List, [], ◌++◌, append_assoc}
@@ -10,19 +10,19 @@ use lib.Seq.{take_at, drop_at, get_or-append-add, get_or-take, get_or-drop}
 use Rattle.meaning.specs.Limits.{no_more_docs, node_state_words}
 use Rattle.meaning.specs.Lent.{Index}
 use Rattle.meaning.specs.First.{First}
-use Rattle.weight.specs.ScorerTree.{Scorer, Scorers, end, more, matches}
-use Rattle.weight.specs.Held.{Ok, Oks}
-use Rattle.weight.specs.Sound.{Lends, Sound, Sounds}
-use Rattle.node.specs.Words.{ChildThere, ChildIs}
-use Rattle.node.specs.declared.Child.{Child}
-use Rattle.node.specs.declared.NodeKind.TheVariants.{Term, Range}
-use Rattle.node.proofs.Scorers.{term-word, range-word}
-use Rattle.scorer.specs.Calls.{NodeHeld, AdvancePre, AdvancePost, AskPre, TermPre, RangePre, PartsHeld}
-use Rattle.leaf_scorer.specs.Calls.{Lent, RoomIn}
-use Rattle.leaf_scorer.proofs.Bounds.{front_long, front-size, ok-mono, oks-mono, ok-front, ok-cached}
+use Rattle.tree_weight.specs.ScorerTree.{Scorer, Scorers, end, more, matches}
+use Rattle.tree_weight.specs.Held.{Ok, Oks}
+use Rattle.tree_weight.specs.Sound.{Lends, Sound, Sounds}
+use Rattle.tree_node.specs.Words.{ChildThere, ChildRead}
+use Rattle.tree_node.specs.declared.Child.{Child}
+use Rattle.tree_node.specs.declared.NodeKind.TheVariants.{Term, Range}
+use Rattle.tree_node.proofs.Scorers.{term-word, range-word}
+use Rattle.scorer.specs.Calls.{NodeHeld, AdvancePre, AdvancePost, AskPre, AdvanceTermPre, AdvanceRangePre, PartsHeld}
+use Rattle.scorer_leaf.specs.Calls.{Lists, RoomIn}
+use Rattle.scorer_leaf.proofs.Bounds.{front_long, front-size, ok-mono, oks-mono, ok-front, ok-cached}
 
 -- g are the children that are left, whose words are z; the words before them are x. Nothing is said of those passed but how to put them back.
-pub record Zip (E : Lent) (ix : Index) (p k : ℕ) (fs g : Scorers) (kids : List ℕ) (at t : ℕ) : Type 0 where
+pub record Zip (E : Lists) (ix : Index) (p k : ℕ) (fs g : Scorers) (kids : List ℕ) (at t : ℕ) : Type 0 where
   pub x : List ℕ
   pub z : List ℕ
   pub is : kids ≡ x ++ z
@@ -34,7 +34,7 @@ pub record Zip (E : Lent) (ix : Index) (p k : ℕ) (fs g : Scorers) (kids : List
   pub back : (e : ℕ) → t ≤ e → (z' : List ℕ) → Oks ix E.ranges g k z' e → Oks ix E.ranges fs k (x ++ z') e
 
 -- the next child
-pub record View (E : Lent) (ix : Index) (p k : ℕ) (fs : Scorers) (f : Bool) (T : Scorer) (g : Scorers) (kids : List ℕ) (at t : ℕ) : Type 0 where
+pub record View (E : Lists) (ix : Index) (p k : ℕ) (fs : Scorers) (f : Bool) (T : Scorer) (g : Scorers) (kids : List ℕ) (at t : ℕ) : Type 0 where
   pub x : List ℕ
   pub y : List ℕ
   pub z : List ℕ
@@ -52,7 +52,7 @@ pub record View (E : Lent) (ix : Index) (p k : ℕ) (fs : Scorers) (f : Bool) (T
   pub cached : get_or kids (at + 2) 0 ≡ get_or y 2 0
   pub back : (ys : List ℕ) → Ok ix E.ranges T k (cond f 1 0) ys t → (e : ℕ) → t ≤ e → (z' : List ℕ) → Oks ix E.ranges g k z' e → Oks ix E.ranges fs k ((x ++ ys) ++ z') e
 
-module _ {E : Lent} {ix : Index} {p k : ℕ} {fs : Scorers} {kids : List ℕ} where
+module _ {E : Lists} {ix : Index} {p k : ℕ} {fs : Scorers} {kids : List ℕ} where
   pub zip_start : {t : ℕ} → PartsHeld E ix p fs k kids t → Zip E ix p k fs fs kids 0 t
   zip_start q = record { x = []; z = kids; is = refl; place = refl; lends = q.lends; whole = q.sounds; sounds = q.sounds; rest = q.oks; back = λ e h z' r. r }
 
@@ -93,7 +93,7 @@ module _ {E : Lent} {ix : Index} {p k : ℕ} {fs : Scorers} {kids : List ℕ} wh
         back = λ ys o e' l z' r. rw append_assoc (q.back e' l (ys ++ z') (ys, z', refl, ok-mono ix E.ranges T k (cond f 1 0) ys t e' l o, r));
       }
 
-module _ {E : Lent} {ix : Index} {p k : ℕ} {fs : Scorers} {f : Bool} {T : Scorer} {g : Scorers} {kids : List ℕ} {at t : ℕ} (v : View E ix p k fs f T g kids at t) (e : ℕ) (end : e ≡ at + get_or kids (at + 1) 0) where
+module _ {E : Lists} {ix : Index} {p k : ℕ} {fs : Scorers} {f : Bool} {T : Scorer} {g : Scorers} {kids : List ℕ} {at t : ℕ} (v : View E ix p k fs f T g kids at t) (e : ℕ) (end : e ≡ at + get_or kids (at + 1) 0) where
   pub span : e - at ≡ length v.y
   span = omega (arith, v.size)
 
@@ -143,7 +143,7 @@ module _ {E : Lent} {ix : Index} {p k : ℕ} {fs : Scorers} {f : Bool} {T : Scor
       let s : c ≡ get_or v.y 2 0 = h ∙ v.cached in
       rw s (ok-cached ix E.ranges T k (cond f 1 0) v.y t v.ok t (le_refl _) (rw s at l))
 
-module _ {E : Lent} {ix : Index} {p k : ℕ} {fs : Scorers} {kids : List ℕ} {at t : ℕ} where
+module _ {E : Lists} {ix : Index} {p k : ℕ} {fs : Scorers} {kids : List ℕ} {at t : ℕ} where
   pub child-facts : (g : Scorers) → Zip E ix p k fs g kids at t → at < length kids → ChildThere kids at
   child-facts end q l = absurd (omega (arith, zip-none q))
   child-facts (more f T g) q l = record { long = omega (arith, (view q).long, (view q).size); fits = omega (arith, (view q).fits, (view q).size) }
@@ -157,24 +157,24 @@ pub child-cached : (kids : List ℕ) (at e : ℕ) → ChildThere kids at → e �
 child-cached kids at e k h c i l = omega (arith, get_or-take (e - at) (drop at kids) 2 0 (omega (arith, k.long, h)), get_or-drop at kids 2 0)
 
 -- what a child's kind says of its first word
-pub child-is-term : {kids : List ℕ} {at : ℕ} {c : Child} → ChildIs kids at c → c.kind ≡ Term → get_or kids at 0 ≡ 1
+pub child-is-term : {kids : List ℕ} {at : ℕ} {c : Child} → ChildRead kids at c → c.kind ≡ Term → get_or kids at 0 ≡ 1
 child-is-term is e = term-word _ (sym is.kind-is ∙ e)
 
-pub child-is-range : {kids : List ℕ} {at : ℕ} {c : Child} → ChildIs kids at c → c.kind ≡ Range → get_or kids at 0 ≡ 4
+pub child-is-range : {kids : List ℕ} {at : ℕ} {c : Child} → ChildRead kids at c → c.kind ≡ Range → get_or kids at 0 ≡ 4
 child-is-range is e = range-word _ (sym is.kind-is ∙ e)
 
 -- the child where a loop stands, asked for documents from t on
-pub record ChildHere (E : Lent) (a b k : ℕ) (kids : List ℕ) (at t : ℕ) : Type 0 where
+pub record ChildHere (E : Lists) (starts other_starts k : ℕ) (kids : List ℕ) (at t : ℕ) : Type 0 where
   pub ix : Index
   pub places : ℕ
   pub scorer : Scorer
   pub scores : ℕ
   pub top : t ≤ no_more_docs
-  pub room : RoomIn places a b
+  pub room : RoomIn places starts other_starts
   pub there : ChildThere kids at
   pub held : (e : ℕ) → e ≡ at + get_or kids (at + 1) 0 → NodeHeld E ix places scorer k scores (take (e - at) (drop at kids)) t
 
-pub child-here : {E : Lent} {ix : Index} {p k a b : ℕ} {fs : Scorers} {kids : List ℕ} {at t : ℕ} → t ≤ no_more_docs → RoomIn p a b → (g : Scorers) → Zip E ix p k fs g kids at t → at < length kids → ChildHere E a b k kids at t
+pub child-here : {E : Lists} {ix : Index} {p k starts other_starts : ℕ} {fs : Scorers} {kids : List ℕ} {at t : ℕ} → t ≤ no_more_docs → RoomIn p starts other_starts → (g : Scorers) → Zip E ix p k fs g kids at t → at < length kids → ChildHere E starts other_starts k kids at t
 child-here top room end q l = absurd (omega (arith, zip-none q))
 child-here {ix = ix} {p = p} top room (more f T g) q l =
     record {
@@ -189,15 +189,15 @@ child-here {ix = ix} {p = p} top room (more f T g) q l =
     }
 
 -- .. what is asked of it: c is what its record says
-module _ {E : Lent} {a b k : ℕ} {kids : List ℕ} {at t : ℕ} (h : ChildHere E a b k kids at t) {c : Child} (is : ChildIs kids at c) where
-  pub child-asked : AdvancePre E a b (take (c.end - at) (drop at kids)) t k
+module _ {E : Lists} {starts other_starts k : ℕ} {kids : List ℕ} {at t : ℕ} (h : ChildHere E starts other_starts k kids at t) {c : Child} (is : ChildRead kids at c) where
+  pub child-asked : AdvancePre E starts other_starts (take (c.end - at) (drop at kids)) t k
   child-asked = (h.top, (h.ix, h.places, h.scorer, h.scores, h.room, h.held _ is.end_is))
 
-  pub phrase-asked : get_or kids at 0 ≡ 2 → c.cached ≤ t → AskPre E.postings E.positions a b (take (c.end - at) (drop at kids)) t
+  pub phrase-asked : get_or kids at 0 ≡ 2 → c.cached ≤ t → AskPre E.postings E.positions starts other_starts (take (c.end - at) (drop at kids)) t
   phrase-asked w due = (h.top, child-kind kids at _ h.there is.end_is ∙ w, child-cached kids at _ h.there is.end_is _ is.cached-is due, (E, refl, refl, h.ix, h.places, h.scorer, k, h.scores, h.room, h.held _ is.end_is))
 
-  pub term-asked : c.kind ≡ Term → TermPre E.postings (take (c.end - at) (drop at kids)) t
+  pub term-asked : c.kind ≡ Term → AdvanceTermPre E.postings (take (c.end - at) (drop at kids)) t
   term-asked e = (h.top, child-kind kids at _ h.there is.end_is ∙ child-is-term is e, (E, refl, h.ix, h.places, h.scorer, k, h.scores, h.held _ is.end_is))
 
-  pub range-asked : c.kind ≡ Range → RangePre E.ranges (take (c.end - at) (drop at kids)) t
+  pub range-asked : c.kind ≡ Range → AdvanceRangePre E.ranges (take (c.end - at) (drop at kids)) t
   range-asked e = (h.top, child-kind kids at _ h.there is.end_is ∙ child-is-range is e, (E, refl, h.ix, h.places, h.scorer, k, h.scores, h.held _ is.end_is))

@@ -17,12 +17,12 @@ use Rattle.meaning.specs.CallRefusals.{largest_in}
 use Rattle.meaning.specs.IndexRefusals.{wrong1, wrong_field, wrong2, wrong3, wrong_leaf, wrong4, wrong_position, wrong_positions, wrong_posting, wrong5, wrong_column, wrong6}
 use Rattle.index.specs.Accepted.{Accepted}
 use Rattle.index.proofs.Accepted.{accepted}
-use Rattle.weight.specs.ScorerTree.{nothing, term, phrase, constant, one_more, Scorer, leaf, boolean, end, more, leaf_matches, matches}
-use Rattle.weight.specs.State.{State, words_of, leaf_size, size_of, sizes_of_first}
-use Rattle.weight.specs.Held.{TermIs, TermsAre, norms_word, LeafIs, ScoringIs, FloatIs, KeptIs, JoiningIs, Ok}
-use Rattle.weight.specs.Sound.{EachTerm, LeafSound, Sound}
+use Rattle.tree_weight.specs.ScorerTree.{nothing, term, phrase, constant, one_more, Scorer, leaf, boolean, end, more, leaf_matches, matches}
+use Rattle.tree_weight.specs.State.{State, words_of, leaf_size, size_of, sizes_of_first}
+use Rattle.tree_weight.specs.Held.{TermIs, TermsAre, norms_word, LeafIs, ScoringIs, FloatIs, KeptIs, JoiningIs, Ok}
+use Rattle.tree_weight.specs.Sound.{EachTerm, LeafSound, Sound}
 use Rattle.scorer.specs.Calls.{AdvancePre}
-use Rattle.leaf_scorer.specs.Calls.{lent}
+use Rattle.scorer_leaf.specs.Calls.{lists}
 
 abbrev postings : List ℕ
 postings = 0 ∷ 1 ∷ 0 ∷ 2 ∷ 1 ∷ 1 ∷ 2 ∷ 1 ∷ 2 ∷ []
@@ -170,5 +170,5 @@ tree-ok = (
 )
 
 -- two buffers of one place, from document 0 on, one level of children
-pub met : AdvancePre (lent 3 postings positions []) 1 1 words 0 1
-met = (lit≤ tt, (index, 1, tree, 1, record { in-a = lit≤ tt; in_b = lit≤ tt }, record { lends = record { accepted = index-accepted; documents = refl; postings-are = refl; positions-are = refl }; sound = tree-sound; ok = tree-ok }))
+pub met : AdvancePre (lists 3 postings positions []) 1 1 words 0 1
+met = (lit≤ tt, (index, 1, tree, 1, record { in-starts = lit≤ tt; in-other = lit≤ tt }, record { lends = record { accepted = index-accepted; documents = refl; postings-are = refl; positions-are = refl }; sound = tree-sound; ok = tree-ok }))

@@ -12,9 +12,9 @@ use borrow.Author.Tests.{le-leb, lt-leb, lt-ltb, ltb-false}
 use Rattle.meaning.specs.Limits.{no_more_docs}
 use Rattle.meaning.specs.Lent.{Index}
 use Rattle.meaning.specs.First.{First}
-use Rattle.weight.specs.ScorerTree.{Joining, Scorer, Scorers, end, more, boolean, matches, all_match, any_matches, matching}
-use Rattle.weight.specs.Held.{Cache}
-use Rattle.scorer.specs.Calls.{Passes, leads, takes, LeastIs}
+use Rattle.tree_weight.specs.ScorerTree.{Joining, Scorer, Scorers, end, more, boolean, matches, all_match, any_matches, matching}
+use Rattle.tree_weight.specs.Held.{Cache}
+use Rattle.scorer.specs.Calls.{Approximates, leads, lead_takes, LeastIs}
 use Rattle.meaning.proofs.Tests.{cmp}
 
 pub first_to : {P : ℕ → Bool} {t r : ℕ} → First P t r → (s : ℕ) → r ≡ s → First P t s
@@ -31,14 +31,14 @@ and-false true = refl
 and-false false = refl
 
 -- a pass that moves nothing, and one that moves
-pub pass-done : {P : ℕ → Bool} {t d e : ℕ} → t ≤ d → ((x : ℕ) → t ≤ x → x < d → P x ≡ false) → Passes P d e → e ≡ d → First P t d
+pub pass-done : {P : ℕ → Bool} {t d e : ℕ} → t ≤ d → ((x : ℕ) → t ≤ x → x < d → P x ≡ false) → Approximates P d d e → e ≡ d → First P t d
 pass-done {P} l un p q = record { from = l; top = omega (arith, p.top); before = un; hit = λ h. subst (λ (j : ℕ). P j ≡ true) q (p.hit q (omega arith)) }
 
-pub pass-more : {P : ℕ → Bool} {t d e : ℕ} → ((x : ℕ) → t ≤ x → x < d → P x ≡ false) → Passes P d e → (x : ℕ) → t ≤ x → x < e → P x ≡ false
+pub pass-more : {P : ℕ → Bool} {t d e : ℕ} → ((x : ℕ) → t ≤ x → x < d → P x ≡ false) → Approximates P d d e → (x : ℕ) → t ≤ x → x < e → P x ≡ false
 pass-more {d = d} un p x a b = ⊎_elim (λ h. un x a h) (λ h. p.before x h b) (cmp x d)
 
 -- a pass and then a step to the first that a second property takes
-pub pass-then : {P Q : ℕ → Bool} {t e r : ℕ} → Passes P t e → First Q e r → Passes (λ d. P d && Q d) t r
+pub pass-then : {P Q : ℕ → Bool} {t e r : ℕ} → Approximates P t t e → First Q e r → Approximates (λ d. P d && Q d) t t r
 pass-then {P} {Q} {t} {e} {r} p q =
     record {
       from = le_trans p.from q.from;
@@ -51,7 +51,7 @@ pass-then {P} {Q} {t} {e} {r} p q =
     }
 
 -- a pass where the second property takes all
-pub pass-only : {P Q : ℕ → Bool} {t e : ℕ} → ((d : ℕ) → Q d ≡ true) → Passes P t e → Passes (λ d. P d && Q d) t e
+pub pass-only : {P Q : ℕ → Bool} {t e : ℕ} → ((d : ℕ) → Q d ≡ true) → Approximates P t t e → Approximates (λ d. P d && Q d) t t e
 pass-only {P} {Q} {t} {e} all p =
     record {
       from = p.from;
@@ -107,7 +107,7 @@ and-swap true false false = refl
 and-swap false b c = refl
 
 -- a Boolean's documents
-pub boolean-takes : (ix : Index) (c : Option Float) (j : Joining) (need : ℕ) (rs os ps : Scorers) (d : ℕ) → takes ix rs os ps need d ≡ matches ix (boolean c j need rs os ps) d
+pub boolean-takes : (ix : Index) (c : Option Float) (j : Joining) (need : ℕ) (rs os ps : Scorers) (d : ℕ) → lead_takes ix rs os ps need d ≡ matches ix (boolean c j need rs os ps) d
 unfolding matches
 boolean-takes ix c j need rs os ps d = ap (λ (i : Bool). leads ix rs os need d && not i) (sym (any-matching ix ps d)) ∙ (and-swap (all_match ix rs d) (not (any_matches ix ps d)) (leb need (matching ix os d)))
 
@@ -131,15 +131,15 @@ module _ {ix : Index} {ss : Scorers} {need target t d n : ℕ} (some : 0 < need)
 
 -- ---- exclusion
 module _ (ix : Index) (rs os ps : Scorers) (need : ℕ) {target t d : ℕ} (lo : target ≤ t)
-    (un : (x : ℕ) → target ≤ x → x < t → takes ix rs os ps need x ≡ false) (f : First (leads ix rs os need) t d) where
-  kept-before : (x : ℕ) → target ≤ x → x < d → takes ix rs os ps need x ≡ false
+    (un : (x : ℕ) → target ≤ x → x < t → lead_takes ix rs os ps need x ≡ false) (f : First (leads ix rs os need) t d) where
+  kept-before : (x : ℕ) → target ≤ x → x < d → lead_takes ix rs os ps need x ≡ false
   kept-before x a b = ⊎_elim (λ h. un x a h) (λ h. ap (λ (i : Bool). i && not (ltb 0 (matching ix ps x))) (f.before x h b)) (cmp x t)
 
-  pub kept_top : d ≡ no_more_docs → First (takes ix rs os ps need) target d
+  pub kept_top : d ≡ no_more_docs → First (lead_takes ix rs os ps need) target d
   kept_top e = record { from = le_trans lo f.from; top = f.top; before = kept-before; hit = λ h. absurd (omega arith) }
 
   -- where nothing is prohibited
-  pub kept-alone : ((x : ℕ) → matching ix ps x ≡ 0) → First (takes ix rs os ps need) target d
+  pub kept-alone : ((x : ℕ) → matching ix ps x ≡ 0) → First (lead_takes ix rs os ps need) target d
   kept-alone none =
       record {
         from = le_trans lo f.from;
@@ -148,7 +148,7 @@ module _ (ix : Index) (rs os ps : Scorers) (need : ℕ) {target t d : ℕ} (lo :
         hit = λ h. ap (λ (i : Bool). i && not (ltb 0 (matching ix ps d))) (f.hit h) ∙ ap (λ (n : ℕ). not (ltb 0 n)) (none d);
       }
 
-  pub kept-hit : (x n : ℕ) → LeastIs ix ps d x n → (x ≡ d → ⊥) → First (takes ix rs os ps need) target d
+  pub kept-hit : (x n : ℕ) → LeastIs ix ps d x n → (x ≡ d → ⊥) → First (lead_takes ix rs os ps need) target d
   kept-hit x n g ne =
       record {
         from = le_trans lo f.from;
@@ -157,7 +157,7 @@ module _ (ix : Index) (rs os ps : Scorers) (need : ℕ) {target t d : ℕ} (lo :
         hit = λ h. ap (λ (i : Bool). i && not (ltb 0 (matching ix ps d))) (f.hit h) ∙ ap not (g.first.before d (le_refl _) (omega (arith, g.first.from)));
       }
 
-  pub kept_more : (x n : ℕ) → d < no_more_docs → LeastIs ix ps d x n → x ≡ d → (y : ℕ) → target ≤ y → y < d + 1 → takes ix rs os ps need y ≡ false
+  pub kept_more : (x n : ℕ) → d < no_more_docs → LeastIs ix ps d x n → x ≡ d → (y : ℕ) → target ≤ y → y < d + 1 → lead_takes ix rs os ps need y ≡ false
   kept_more x n h g q y a b =
       ⊎_elim (λ e. kept-before y a e)
       (λ e.

@@ -12,14 +12,14 @@ use borrow.Author.Tests.{le-leb}
 use Rattle.meaning.specs.Limits.{no_more_docs}
 use Rattle.meaning.specs.Lent.{Index}
 use Rattle.meaning.specs.First.{First}
-use Rattle.weight.specs.ScorerTree.{Scorers, end, more, all_match, matching}
-use Rattle.weight.specs.State.{sizes_of}
-use Rattle.weight.specs.Held.{Oks}
-use Rattle.scorer.specs.Calls.{PartsHeld, Passes, PassPost, LeadHeld, LeadPost, BooleanHeld, leads}
-use Rattle.leaf_scorer.specs.Calls.{Lent}
-use Rattle.leaf_scorer.proofs.Bounds.{oks-mono, oks-length, ok-long}
+use Rattle.tree_weight.specs.ScorerTree.{Scorers, end, more, all_match, matching}
+use Rattle.tree_weight.specs.State.{sizes_of}
+use Rattle.tree_weight.specs.Held.{Oks}
+use Rattle.scorer.specs.Calls.{PartsHeld, Approximates, PassPost, LeadHeld, LeadPost, BooleanHeld, leads}
+use Rattle.scorer_leaf.specs.Calls.{Lists}
+use Rattle.scorer_leaf.proofs.Bounds.{oks-mono, oks-length, ok-long}
 use Rattle.scorer.proofs.Firsts.{all_end, matching-end}
-use Rattle.leaf_scorer.proofs.Loops.{first-like}
+use Rattle.scorer_leaf.proofs.Loops.{first-like}
 
 -- a list in two: the part up to the seam, the part from it on, and each put back
 module _ (kids x v : List ℕ) (n : ℕ) (is : kids ≡ x ++ v) (seam : length x ≡ n) where
@@ -41,14 +41,14 @@ module _ (kids x v : List ℕ) (n : ℕ) (is : kids ≡ x ++ v) (seam : length x
 pub front_length : (kids ys : List ℕ) (n : ℕ) → length ys ≡ length (take n kids) → length (ys ++ drop n kids) ≡ length kids
 front_length kids ys n h = simp (length-append, length-take, length-drop, h) (omega arith)
 
-pub parts-later : {E : Lent} {ix : Index} {p k : ℕ} {ss : Scorers} {w : List ℕ} {b : ℕ} (e : ℕ) → b ≤ e → PartsHeld E ix p ss k w b → PartsHeld E ix p ss k w e
+pub parts-later : {E : Lists} {ix : Index} {p k : ℕ} {ss : Scorers} {w : List ℕ} {b : ℕ} (e : ℕ) → b ≤ e → PartsHeld E ix p ss k w b → PartsHeld E ix p ss k w e
 parts-later {E} {ix} {p} {k} {ss} {w} {b} e h q = record { lends = q.lends; sounds = q.sounds; oks = oks-mono ix E.ranges ss k w b e h q.oks }
 
-pub parts-length : {E : Lent} {ix : Index} {p k : ℕ} {ss : Scorers} {w : List ℕ} {b : ℕ} → PartsHeld E ix p ss k w b → length w ≡ sizes_of ss
+pub parts-length : {E : Lists} {ix : Index} {p k : ℕ} {ss : Scorers} {w : List ℕ} {b : ℕ} → PartsHeld E ix p ss k w b → length w ≡ sizes_of ss
 parts-length {E} {ix} {p} {k} {ss} {w} {b} q = oks-length ix E.ranges ss k w b q.oks
 
 -- ---- the required and the optional
-module _ {E : Lent} {ix : Index} {p k : ℕ} {rs os : Scorers} {n : ℕ} {kids : List ℕ} {t : ℕ} (h : LeadHeld E ix p rs os k n kids t) where
+module _ {E : Lists} {ix : Index} {p k : ℕ} {rs os : Scorers} {n : ℕ} {kids : List ℕ} {t : ℕ} (h : LeadHeld E ix p rs os k n kids t) where
   seam : length h.x ≡ n
   seam = parts-length h.required ∙ sym h.required-end
 
@@ -61,7 +61,7 @@ module _ {E : Lent} {ix : Index} {p k : ℕ} {rs os : Scorers} {n : ℕ} {kids :
   lead-passed : (ys : List ℕ) (e : ℕ) → t ≤ e → PartsHeld E ix p rs k ys e → LeadHeld E ix p rs os k n (ys ++ drop n kids) e
   lead-passed ys e l q = record { x = ys; v = h.v; is = front-back kids h.x h.v n h.is seam ys; required-end = h.required-end; required = q; optional = parts-later e l h.optional }
 
-  pub lead-turn : (ys : List ℕ) (r : ℕ) → PassPost E (take n kids) t k r ys → Passes (all_match ix rs) t r × LeadHeld E ix p rs os k n (ys ++ drop n kids) r
+  pub lead-turn : (ys : List ℕ) (r : ℕ) → PassPost E (take n kids) t k r ys → Approximates (all_match ix rs) t t r × LeadHeld E ix p rs os k n (ys ++ drop n kids) r
   lead-turn ys r post = let q = post ix p rs lead-required in (q.0, lead-passed ys r q.0.from q.1)
 
   pub lead-optional : PartsHeld E ix p os k (take (length kids - n) (drop n kids)) t
@@ -74,7 +74,7 @@ module _ {E : Lent} {ix : Index} {p k : ℕ} {rs os : Scorers} {n : ℕ} {kids :
   lead-later e l = record { x = h.x; v = h.v; is = h.is; required-end = h.required-end; required = parts-later e l h.required; optional = parts-later e l h.optional }
 
 -- without required children
-no-parts : {E : Lent} {ix : Index} {p k : ℕ} {t : ℕ} (rs : Scorers) (x : List ℕ) → PartsHeld E ix p rs k x t → length x ≡ 0 → (d : ℕ) → all_match ix rs d ≡ true
+no-parts : {E : Lists} {ix : Index} {p k : ℕ} {t : ℕ} (rs : Scorers) (x : List ℕ) → PartsHeld E ix p rs k x t → length x ≡ 0 → (d : ℕ) → all_match ix rs d ≡ true
 unfolding Oks
 no-parts {E} {ix} {p} {k} {t} end x q e d = all_end ix d
 no-parts {E} {ix} {p} {k} {t} (more f T ss) x q e d =
@@ -82,7 +82,7 @@ no-parts {E} {ix} {p} {k} {t} (more f T ss) x q e d =
     absurd (omega (arith, ap length o.2, length-append o.0 o.1, ok-long ix E.ranges T k (cond f 1 0) o.0 t o.3))
 
 -- without prohibited children
-none-match : {E : Lent} {ix : Index} {p k : ℕ} {t : ℕ} (ps : Scorers) (x : List ℕ) → PartsHeld E ix p ps k x t → length x ≡ 0 → (d : ℕ) → matching ix ps d ≡ 0
+none-match : {E : Lists} {ix : Index} {p k : ℕ} {t : ℕ} (ps : Scorers) (x : List ℕ) → PartsHeld E ix p ps k x t → length x ≡ 0 → (d : ℕ) → matching ix ps d ≡ 0
 unfolding Oks
 none-match {E} {ix} {p} {k} {t} end x q e d = matching-end ix d
 none-match {E} {ix} {p} {k} {t} (more f T ss) x q e d =
@@ -93,7 +93,7 @@ nil-of : (x : List ℕ) → length x ≡ 0 → x ≡ []
 nil-of [] e = refl
 nil-of (a ∷ x) e = absurd (omega (arith, e))
 
-module _ {E : Lent} {ix : Index} {p k : ℕ} {rs os : Scorers} {n : ℕ} {kids : List ℕ} {t : ℕ} (h : LeadHeld E ix p rs os k n kids t) (e : n ≡ 0) where
+module _ {E : Lists} {ix : Index} {p k : ℕ} {rs os : Scorers} {n : ℕ} {kids : List ℕ} {t : ℕ} (h : LeadHeld E ix p rs os k n kids t) (e : n ≡ 0) where
   pub alone-all : (d : ℕ) → all_match ix rs d ≡ true
   alone-all = no-parts rs h.x h.required (seam h ∙ e)
 
@@ -114,7 +114,7 @@ module _ {E : Lent} {ix : Index} {p k : ℕ} {rs os : Scorers} {n : ℕ} {kids :
   alone-here need z top = record { from = le_refl _; top = top; before = λ d a b. absurd (omega arith); hit = λ _. rw (alone-all t) (le-leb need (matching ix os t) (omega arith)) }
 
 -- ---- and the prohibited
-module _ {E : Lent} {ix : Index} {p k : ℕ} {rs os ps : Scorers} {n m : ℕ} {kids : List ℕ} {t : ℕ} (h : BooleanHeld E ix p rs os ps k n m kids t) where
+module _ {E : Lists} {ix : Index} {p k : ℕ} {rs os ps : Scorers} {n m : ℕ} {kids : List ℕ} {t : ℕ} (h : BooleanHeld E ix p rs os ps k n m kids t) where
   pub boolean-lead : LeadHeld E ix p rs os k n (take m kids) t
   boolean-lead = rw (front-part kids h.w h.z m h.is (sym h.optional-end)) h.lead
 

@@ -11,19 +11,19 @@ use borrow.Author.Tests.{lt-ltb, le-ltb}
 use Rattle.meaning.specs.Limits.{no_more_docs, node_state_words}
 use Rattle.meaning.specs.Lent.{Index}
 use Rattle.meaning.specs.First.{First}
-use Rattle.weight.specs.ScorerTree.{Scorer, Scorers, end, more, matches, all_match, matching}
-use Rattle.weight.specs.Held.{Ok}
-use Rattle.scorer.specs.Calls.{NodeHeld, AdvancePost, PartsHeld, Tally, LeastIs, Passes, Asks}
-use Rattle.leaf_scorer.specs.Calls.{Lent, RoomIn}
-use Rattle.leaf_scorer.specs.Buffers.{room, other_room}
-use Rattle.leaf_scorer.specs.declared.PhraseBuffers.{PhraseBuffers}
-use Rattle.leaf_scorer.proofs.Loops.{Lengths, same_room}
+use Rattle.tree_weight.specs.ScorerTree.{Scorer, Scorers, end, more, matches, all_match, matching}
+use Rattle.tree_weight.specs.Held.{Ok}
+use Rattle.scorer.specs.Calls.{NodeHeld, AdvancePost, PartsHeld, Tally, LeastIs, Approximates}
+use Rattle.scorer_leaf.specs.Calls.{Lists, RoomIn}
+use Rattle.scorer_leaf.specs.Buffers.{room, other_room}
+use Rattle.scorer_leaf.specs.declared.PhraseBuffers.{PhraseBuffers}
+use Rattle.scorer_leaf.proofs.Loops.{Lengths, same_room}
 use Rattle.meaning.proofs.Tests.{cmp}
 use Rattle.scorer.proofs.Firsts.{matching-hit, matching-miss, matching-end, all-hit, all-miss, all_rest, all_end}
 use Rattle.scorer.proofs.Children.{ChildHere, child-here, Zip, zip-later, zip_end, zip-none, view, zip-took, zip-skip, held, of-advance, of-cached}
 
 -- ---- the least document
-pub record LeastAt (E : Lent) (ix : Index) (p k : ℕ) (fs : Scorers) (kids : List ℕ) (t best n at : ℕ) : Type 0 where
+pub record LeastAt (E : Lists) (ix : Index) (p k : ℕ) (fs : Scorers) (kids : List ℕ) (t best n at : ℕ) : Type 0 where
   pub left : Scorers
   pub zip : Zip E ix p k fs left kids at t
   pub lo : t ≤ best
@@ -33,7 +33,7 @@ pub record LeastAt (E : Lent) (ix : Index) (p k : ℕ) (fs : Scorers) (kids : Li
   pub here : best < no_more_docs → matching ix fs best ≡ n + matching ix left best
   pub some' : best < no_more_docs → 0 < n
 
-module _ {E : Lent} {ix : Index} {p k : ℕ} {fs : Scorers} where
+module _ {E : Lists} {ix : Index} {p k : ℕ} {fs : Scorers} where
   pub least-end : {kids : List ℕ} {t best n at : ℕ} → LeastAt E ix p k fs kids t best n at → length kids ≤ at → LeastIs ix fs t best n × PartsHeld E ix p fs k kids t
   least-end {kids} {t} {best} {n} {at} q l = go q.left q.zip q.none' q.here
     where
@@ -131,11 +131,11 @@ module _ {E : Lent} {ix : Index} {p k : ℕ} {fs : Scorers} where
             let a = of-advance (view z) e stop r ys post in
             least-next f T g e r best' n' (omega (arith, (view z).long, (view z).size)) q.lo q.top q.few u h q.some' (zip-took (view z) e stop ys len a.1) a.0 w
 
-pub least-child : {E : Lent} {k : ℕ} {kids₀ kids : List ℕ} {b₀ b : PhraseBuffers} {t best n at : ℕ} → ((ix : Index) × (p : ℕ) × (ss : Scorers) × RoomIn p (room b₀) (other_room b₀) × PartsHeld E ix p ss k kids₀ t) → Lengths (length kids) (length kids₀) b₀ b × ((ix : Index) (p : ℕ) (ss : Scorers) → PartsHeld E ix p ss k kids₀ t → LeastAt E ix p k ss kids t best n at) → at < length kids → ChildHere E (room b) (other_room b) k kids at t
+pub least-child : {E : Lists} {k : ℕ} {kids₀ kids : List ℕ} {b₀ b : PhraseBuffers} {t best n at : ℕ} → ((ix : Index) × (p : ℕ) × (ss : Scorers) × RoomIn p (room b₀) (other_room b₀) × PartsHeld E ix p ss k kids₀ t) → Lengths (length kids) (length kids₀) b₀ b × ((ix : Index) (p : ℕ) (ss : Scorers) → PartsHeld E ix p ss k kids₀ t → LeastAt E ix p k ss kids t best n at) → at < length kids → ChildHere E (room b) (other_room b) k kids at t
 least-child P now l = let q = now.1 P.0 P.1 P.2 P.4 in child-here (le_trans q.lo q.top) (same_room P.3 now.0.buffers-same) q.left q.zip l
 
 -- ---- a pass
-pub record PassAt (E : Lent) (ix : Index) (p k : ℕ) (fs : Scorers) (from : ℕ) (kids : List ℕ) (d at : ℕ) : Type 0 where
+pub record PassAt (E : Lists) (ix : Index) (p k : ℕ) (fs : Scorers) (from : ℕ) (kids : List ℕ) (d at : ℕ) : Type 0 where
   pub left : Scorers
   pub zip : Zip E ix p k fs left kids at d
   pub lo : from ≤ d
@@ -145,20 +145,20 @@ pub record PassAt (E : Lent) (ix : Index) (p k : ℕ) (fs : Scorers) (from : ℕ
   pub holds : d ≡ from → d < no_more_docs → all_match ix left d ≡ true → all_match ix fs d ≡ true
 
 -- what stands at r was asked
-asks-first : {P : ℕ → Bool} {t d r : ℕ} → First P d r → Asks P t d r
+asks-first : {P : ℕ → Bool} {t d r : ℕ} → First P d r → Approximates P t d r
 asks-first first = record { from = first.from; top = first.top; before = first.before; hit = λ a b. first.hit b }
 
-module _ {E : Lent} {ix : Index} {p k : ℕ} {fs : Scorers} {from : ℕ} where
-  pub pass-end : {kids : List ℕ} {d at : ℕ} → PassAt E ix p k fs from kids d at → length kids ≤ at → Passes (all_match ix fs) from d × PartsHeld E ix p fs k kids d
+module _ {E : Lists} {ix : Index} {p k : ℕ} {fs : Scorers} {from : ℕ} where
+  pub pass-end : {kids : List ℕ} {d at : ℕ} → PassAt E ix p k fs from kids d at → length kids ≤ at → Approximates (all_match ix fs) from from d × PartsHeld E ix p fs k kids d
   pass-end {kids} {d} {at} q l = go q.left q.zip q.holds
     where
-      go : (g : Scorers) → Zip E ix p k fs g kids at d → (d ≡ from → d < no_more_docs → all_match ix g d ≡ true → all_match ix fs d ≡ true) → Passes (all_match ix fs) from d × PartsHeld E ix p fs k kids d
+      go : (g : Scorers) → Zip E ix p k fs g kids at d → (d ≡ from → d < no_more_docs → all_match ix g d ≡ true → all_match ix fs d ≡ true) → Approximates (all_match ix fs) from from d × PartsHeld E ix p fs k kids d
       go end z y = (record { from = q.lo; top = q.top; before = q.before; hit = λ a b. y a b (all_end ix d) }, zip_end end z)
       go (more f T g) z y = absurd (omega (arith, (view z).fits, (view z).long))
 
   -- one child more, asked at d, where the pass comes to r
   pass-next : {kids' : List ℕ} {d : ℕ} (f : Bool) (T : Scorer) (g : Scorers) (e r : ℕ) → from ≤ d → ((x : ℕ) → from ≤ x → x < d → all_match ix fs x ≡ false) → ((x : ℕ) → all_match ix (more f T g) x ≡ false → all_match ix fs x ≡ false) → (d ≡ from → d < no_more_docs → all_match ix (more f T g) d ≡ true → all_match ix fs d ≡ true)
-      → Zip E ix p k fs g kids' e r → Asks (matches ix T) from d r → PassAt E ix p k fs from kids' r e
+      → Zip E ix p k fs g kids' e r → Approximates (matches ix T) from d r → PassAt E ix p k fs from kids' r e
   pass-next {kids'} {d} f T g e r lo before fails holds z asks =
       record {
         left = g;
@@ -193,7 +193,7 @@ module _ {E : Lent} {ix : Index} {p k : ℕ} {fs : Scorers} {from : ℕ} where
             pass-next f T g e r q.lo q.before u h (zip-later r a.0.from (zip-took (view z) e stop ys len a.1)) (asks-first a.0)
 
     -- a child that was asked and may be left beyond d
-    pub pass-asked : (r : ℕ) (ys : List ℕ) → length ys ≡ length (take (e - at) (drop at kids)) → ((ix : Index) (p : ℕ) (T : Scorer) (o : ℕ) → NodeHeld E ix p T k o (take (e - at) (drop at kids)) d → Asks (matches ix T) from d r × Ok ix E.ranges T k o ys r) → PassAt E ix p k fs from (take at kids ++ (ys ++ drop (e - at) (drop at kids))) r e
+    pub pass-asked : (r : ℕ) (ys : List ℕ) → length ys ≡ length (take (e - at) (drop at kids)) → ((ix : Index) (p : ℕ) (T : Scorer) (o : ℕ) → NodeHeld E ix p T k o (take (e - at) (drop at kids)) d → Approximates (matches ix T) from d r × Ok ix E.ranges T k o ys r) → PassAt E ix p k fs from (take at kids ++ (ys ++ drop (e - at) (drop at kids))) r e
     pass-asked r ys len post = go q.left q.zip q.fails q.holds
       where
         go : (g : Scorers) → Zip E ix p k fs g kids at d → ((x : ℕ) → all_match ix g x ≡ false → all_match ix fs x ≡ false) → (d ≡ from → d < no_more_docs → all_match ix g d ≡ true → all_match ix fs d ≡ true) → PassAt E ix p k fs from (take at kids ++ (ys ++ drop (e - at) (drop at kids))) r e
@@ -202,5 +202,5 @@ module _ {E : Lent} {ix : Index} {p k : ℕ} {fs : Scorers} {from : ℕ} where
             let a = post ix p T (cond f 1 0) (held (view z) e stop) in
             pass-next f T g e r q.lo q.before u h (zip-took (view (zip-later r a.0.from z)) e stop ys len a.1) a.0
 
-pub pass-child : {E : Lent} {k : ℕ} {kids₀ kids : List ℕ} {b₀ b : PhraseBuffers} {t d at : ℕ} → ((ix : Index) × (p : ℕ) × (ss : Scorers) × RoomIn p (room b₀) (other_room b₀) × PartsHeld E ix p ss k kids₀ t) → Lengths (length kids) (length kids₀) b₀ b × ((ix : Index) (p : ℕ) (ss : Scorers) → PartsHeld E ix p ss k kids₀ t → PassAt E ix p k ss t kids d at) → at < length kids → ChildHere E (room b) (other_room b) k kids at d
+pub pass-child : {E : Lists} {k : ℕ} {kids₀ kids : List ℕ} {b₀ b : PhraseBuffers} {t d at : ℕ} → ((ix : Index) × (p : ℕ) × (ss : Scorers) × RoomIn p (room b₀) (other_room b₀) × PartsHeld E ix p ss k kids₀ t) → Lengths (length kids) (length kids₀) b₀ b × ((ix : Index) (p : ℕ) (ss : Scorers) → PartsHeld E ix p ss k kids₀ t → PassAt E ix p k ss t kids d at) → at < length kids → ChildHere E (room b) (other_room b) k kids at d
 pass-child P now l = let q = now.1 P.0 P.1 P.2 P.4 in child-here q.top (same_room P.3 now.0.buffers-same) q.left q.zip l

@@ -12,17 +12,17 @@ use lib.Ieee.{Float}
 use Rattle.meaning.specs.Limits.{no_more_docs, node_state_words}
 use Rattle.meaning.specs.Lent.{Index}
 use Rattle.meaning.specs.First.{First}
-use Rattle.weight.specs.ScorerTree.{Leaf, nothing, term, phrase, range, everything, Scoring, constant, weighted, Joining, one_more, afterwards, Scorer, leaf, boolean, Scorers, matches, leaf_matches}
-use Rattle.weight.specs.State.{State, words_of, sizes_of}
-use Rattle.weight.specs.Held.{LeafIs, ScoringIs, KeptIs, JoiningIs, Ok}
-use Rattle.weight.specs.Sound.{Sound}
-use Rattle.node.specs.Words.{BooleanIs}
-use Rattle.node.specs.declared.Boolean.{Boolean}
-use Rattle.scorer.specs.Calls.{NodeHeld, BooleanHeld, BooleanPost}
-use Rattle.leaf_scorer.specs.Calls.{Lent, LeafHeld, LeafMoved, LeafPost, Passes}
-use Rattle.leaf_scorer.proofs.Bounds.{leaf-mono, oks-length, ok-long, ok-cached}
+use Rattle.tree_weight.specs.ScorerTree.{Leaf, nothing, term, phrase, range, everything, Scoring, constant, weighted, Joining, one_more, afterwards, Scorer, leaf, boolean, Scorers, matches, leaf_matches}
+use Rattle.tree_weight.specs.State.{State, words_of, sizes_of}
+use Rattle.tree_weight.specs.Held.{LeafIs, ScoringIs, KeptIs, JoiningIs, Ok}
+use Rattle.tree_weight.specs.Sound.{Sound}
+use Rattle.tree_node.specs.Words.{BooleanRead}
+use Rattle.tree_node.specs.declared.Boolean.{Boolean}
+use Rattle.scorer.specs.Calls.{NodeHeld, BooleanHeld, ExcludingPost}
+use Rattle.scorer_leaf.specs.Calls.{Lists, LeafHeld, LeafMoved, SeekPost, Approximates}
+use Rattle.scorer_leaf.proofs.Bounds.{leaf-mono, oks-length, ok-long, ok-cached}
 use Rattle.scorer.proofs.Firsts.{cache-new, boolean-takes}
-use Rattle.leaf_scorer.proofs.Loops.{first-like}
+use Rattle.scorer_leaf.proofs.Loops.{first-like}
 
 -- a record with another cached document
 abbrev pub cached_at : State → ℕ → State
@@ -90,19 +90,19 @@ joining-recached (one_more n) rs s c p = p
 joining-recached afterwards rs s c p = p
 
 -- the children's words put back behind the record, and the cached word stored
-joined_words : (s : State) (rest st w' w : List ℕ) (c : ℕ) → st ≡ words_of s ++ rest → w' ≡ w → set (take node_state_words st ++ (w' ++ drop (length st - node_state_words) (drop node_state_words st))) 2 c ≡ words_of (cached_at s c) ++ w
-joined_words s rest st w' w c e f = let size : length st - node_state_words ≡ length rest = omega (arith, ap length e) in rw (size, e, drop-length, append-nil, f)
+joined_words : (s : State) (rest states w' w : List ℕ) (c : ℕ) → states ≡ words_of s ++ rest → w' ≡ w → set (take node_state_words states ++ (w' ++ drop (length states - node_state_words) (drop node_state_words states))) 2 c ≡ words_of (cached_at s c) ++ w
+joined_words s rest states w' w c e f = let size : length states - node_state_words ≡ length rest = omega (arith, ap length e) in rw (size, e, drop-length, append-nil, f)
 
 -- ---- a Boolean's children, which can be asked up to the document where it stands
-module _ {E : Lent} {ix : Index} {p k o : ℕ} {st : List ℕ} {t : ℕ} (due : get_or st 2 0 ≤ t) (b : Boolean) (is : BooleanIs st b) where
-  boolean-children : (x : Option Float) (j : Joining) (need : ℕ) (rs os ps : Scorers) → NodeHeld E ix p (boolean x j need rs os ps) k o st t → BooleanHeld E ix p rs os ps (k - 1) b.required_end b.optional_end (take (length st - node_state_words) (drop node_state_words st)) t
+module _ {E : Lists} {ix : Index} {p k o : ℕ} {states : List ℕ} {t : ℕ} (due : get_or states 2 0 ≤ t) (b : Boolean) (is : BooleanRead states b) where
+  boolean-children : (x : Option Float) (j : Joining) (need : ℕ) (rs os ps : Scorers) → NodeHeld E ix p (boolean x j need rs os ps) k o states t → BooleanHeld E ix p rs os ps (k - 1) b.required_end b.optional_end (take (length states - node_state_words) (drop node_state_words states)) t
   unfolding Ok Sound
   boolean-children x j need rs os ps h =
       let q = h.ok in
       let rest : List ℕ = q.1 ++ (q.2 ++ q.3) in
       let d : q.0.cached ≤ t = rw q.4 at due in
       let m : max t (q.0.cached - 1) ≡ t = omega arith in
-      let size : length st - node_state_words ≡ length rest = omega (arith, ap length q.4) in
+      let size : length states - node_state_words ≡ length rest = omega (arith, ap length q.4) in
       let l : length q.1 ≡ sizes_of rs = oks-length ix E.ranges rs (k - 1) q.1 (max t (q.0.cached - 1)) q.9 in
       let n : length q.2 ≡ sizes_of os = oks-length ix E.ranges os (k - 1) q.2 (max t (q.0.cached - 1)) q.10 in
       let r4 : b.required_end ≡ q.0.required_end = rw (is.required-end, q.4) in
@@ -124,19 +124,19 @@ module _ {E : Lent} {ix : Index} {p k o : ℕ} {st : List ℕ} {t : ℕ} (due : 
       }
 
 -- a leaf that was asked about the target alone
-abbrev pub LeafAsked : Lent → List ℕ → ℕ → ℕ → List ℕ → Type 0
-LeafAsked E st t r st' = (ix : Index) (p : ℕ) (l : Leaf) (s : State) (w : List ℕ) → LeafHeld E ix p l s w st t → Passes (leaf_matches ix l) t r × LeafMoved E ix l s st' r
+abbrev pub LeafAsked : Lists → List ℕ → ℕ → ℕ → List ℕ → Type 0
+LeafAsked E states t r states' = (ix : Index) (p : ℕ) (l : Leaf) (s : State) (w : List ℕ) → LeafHeld E ix p l s w states t → Approximates (leaf_matches ix l) t t r × LeafMoved E ix l s states' r
 
 -- ---- advance
-module _ {E : Lent} {ix : Index} {p k o : ℕ} {st : List ℕ} {t : ℕ} where
-  pub node-long : {T : Scorer} → NodeHeld E ix p T k o st t → node_state_words ≤ length st
-  node-long {T} h = ok-long ix E.ranges T k o st t h.ok
+module _ {E : Lists} {ix : Index} {p k o : ℕ} {states : List ℕ} {t : ℕ} where
+  pub node-long : {T : Scorer} → NodeHeld E ix p T k o states t → node_state_words ≤ length states
+  node-long {T} h = ok-long ix E.ranges T k o states t h.ok
 
-  pub node-cached : {T : Scorer} → NodeHeld E ix p T k o st t → t < get_or st 2 0 → First (matches ix T) t (get_or st 2 0 - 1)
-  node-cached {T} h l = ok-cached ix E.ranges T k o st t h.ok t (le_refl _) l
+  pub node-cached : {T : Scorer} → NodeHeld E ix p T k o states t → t < get_or states 2 0 → First (matches ix T) t (get_or states 2 0 - 1)
+  node-cached {T} h l = ok-cached ix E.ranges T k o states t h.ok t (le_refl _) l
 
-  module _ (due : get_or st 2 0 ≤ t) where
-    leaf-held : (l : Leaf) (sc : Scoring) → (h : NodeHeld E ix p (leaf l sc) k o st t) → (s : State) × (w : List ℕ) × LeafHeld E ix p l s w st t
+  module _ (due : get_or states 2 0 ≤ t) where
+    leaf-held : (l : Leaf) (sc : Scoring) → (h : NodeHeld E ix p (leaf l sc) k o states t) → (s : State) × (w : List ℕ) × LeafHeld E ix p l s w states t
     unfolding Ok Sound
     leaf-held l sc h =
         let q = h.ok in
@@ -144,14 +144,14 @@ module _ {E : Lent} {ix : Index} {p k o : ℕ} {st : List ℕ} {t : ℕ} where
         let m : max t (q.0.cached - 1) ≡ t = omega arith in
         (q.0, q.1, record { lends = h.lends; sound = h.sound; words = q.2; due = d; is = rw m at q.4 })
 
-    pub node-leaf : (get_or st 0 0 ≡ 3 → ⊥) → (T : Scorer) → NodeHeld E ix p T k o st t → (l : Leaf) × (s : State) × (w : List ℕ) × LeafHeld E ix p l s w st t
+    pub node-leaf : (get_or states 0 0 ≡ 3 → ⊥) → (T : Scorer) → NodeHeld E ix p T k o states t → (l : Leaf) × (s : State) × (w : List ℕ) × LeafHeld E ix p l s w states t
     unfolding Ok
     node-leaf e (leaf l sc) h = let q = leaf-held l sc h in (l, q.0, q.1, q.2)
     node-leaf e (boolean x j need rs os ps) h = absurd (e (rw h.ok.4 h.ok.7.kind-is))
 
-    pub node-sought : t ≤ no_more_docs → (get_or st 0 0 ≡ 3 → ⊥) → (r : ℕ) (st' : List ℕ) → LeafPost E st t r st' → (T : Scorer) → NodeHeld E ix p T k o st t → First (matches ix T) t r × Ok ix E.ranges T k o (set st' 2 (r + 1)) t
+    pub node-sought : t ≤ no_more_docs → (get_or states 0 0 ≡ 3 → ⊥) → (r : ℕ) (states' : List ℕ) → SeekPost E states t r states' → (T : Scorer) → NodeHeld E ix p T k o states t → First (matches ix T) t r × Ok ix E.ranges T k o (set states' 2 (r + 1)) t
     unfolding Ok matches leaf-held
-    node-sought top e r st' post (leaf l sc) h =
+    node-sought top e r states' post (leaf l sc) h =
         let q = leaf-held l sc h in
         let v = post ix p l q.0 q.1 q.2 in
         let f : First (matches ix (leaf l sc)) t r = first-like (λ d. refl) v.0 in
@@ -168,13 +168,13 @@ module _ {E : Lent} {ix : Index} {p k o : ℕ} {st : List ℕ} {t : ℕ} where
             cache-new f,
           ),
         )
-    node-sought top e r st' post (boolean x j need rs os ps) h = absurd (e (rw h.ok.4 h.ok.7.kind-is))
+    node-sought top e r states' post (boolean x j need rs os ps) h = absurd (e (rw h.ok.4 h.ok.7.kind-is))
 
     -- asked about the target alone, the document is cached where it stands there
-    pub node-asked : (get_or st 0 0 ≡ 3 → ⊥) → (r : ℕ) (st' : List ℕ) → LeafAsked E st t r st' → (T : Scorer) → NodeHeld E ix p T k o st t
-        → Passes (matches ix T) t r × (r ≡ t → Ok ix E.ranges T k o (set st' 2 (t + 1)) t) × ((r ≡ t → ⊥) → Ok ix E.ranges T k o st' r)
+    pub node-asked : (get_or states 0 0 ≡ 3 → ⊥) → (r : ℕ) (states' : List ℕ) → LeafAsked E states t r states' → (T : Scorer) → NodeHeld E ix p T k o states t
+        → Approximates (matches ix T) t t r × (r ≡ t → Ok ix E.ranges T k o (set states' 2 (t + 1)) t) × ((r ≡ t → ⊥) → Ok ix E.ranges T k o states' r)
     unfolding Ok matches leaf-held
-    node-asked e r st' post (leaf l sc) h =
+    node-asked e r states' post (leaf l sc) h =
         let q = leaf-held l sc h in
         let v = post ix p l q.0 q.1 q.2 in
         let s' = v.1.state in
@@ -202,16 +202,16 @@ module _ {E : Lent} {ix : Index} {p k o : ℕ} {st : List ℕ} {t : ℕ} where
             λ x a b. absurd (omega arith),
           ),
         )
-    node-asked e r st' post (boolean x j need rs os ps) h = absurd (e (rw h.ok.4 h.ok.7.kind-is))
+    node-asked e r states' post (boolean x j need rs os ps) h = absurd (e (rw h.ok.4 h.ok.7.kind-is))
 
-    module _ (is-3 : get_or st 0 0 ≡ 3) (b : Boolean) (is : BooleanIs st b) where
-      pub node-boolean : (T : Scorer) → NodeHeld E ix p T k o st t → (0 < k) × ((rs : Scorers) × (os : Scorers) × (ps : Scorers) × BooleanHeld E ix p rs os ps (k - 1) b.required_end b.optional_end (take (length st - node_state_words) (drop node_state_words st)) t)
+    module _ (is-3 : get_or states 0 0 ≡ 3) (b : Boolean) (is : BooleanRead states b) where
+      pub node-boolean : (T : Scorer) → NodeHeld E ix p T k o states t → (0 < k) × ((rs : Scorers) × (os : Scorers) × (ps : Scorers) × BooleanHeld E ix p rs os ps (k - 1) b.required_end b.optional_end (take (length states - node_state_words) (drop node_state_words states)) t)
       unfolding Ok
       node-boolean (leaf l sc) h = absurd (leaf-kind ix E.ranges l h.ok.0 h.ok.1 (max t (h.ok.0.cached - 1)) h.ok.4 (sym (rw h.ok.2 at (sym is-3))))
       node-boolean (boolean x j need rs os ps) h = (h.ok.6, (rs, os, ps, boolean-children due b is x j need rs os ps h))
 
-      pub node-joined : (r : ℕ) (w' : List ℕ) → BooleanPost E (take (length st - node_state_words) (drop node_state_words st)) b.required_end b.optional_end b.need t (k - 1) r w' → (T : Scorer) → NodeHeld E ix p T k o st t
-          → First (matches ix T) t r × Ok ix E.ranges T k o (set (take node_state_words st ++ (w' ++ drop (length st - node_state_words) (drop node_state_words st))) 2 (r + 1)) t
+      pub node-joined : (r : ℕ) (w' : List ℕ) → ExcludingPost E (take (length states - node_state_words) (drop node_state_words states)) b.required_end b.optional_end b.need t (k - 1) r w' → (T : Scorer) → NodeHeld E ix p T k o states t
+          → First (matches ix T) t r × Ok ix E.ranges T k o (set (take node_state_words states ++ (w' ++ drop (length states - node_state_words) (drop node_state_words states))) 2 (r + 1)) t
       unfolding Ok
       node-joined r w' post (leaf l sc) h = absurd (leaf-kind ix E.ranges l h.ok.0 h.ok.1 (max t (h.ok.0.cached - 1)) h.ok.4 (sym (rw h.ok.2 at (sym is-3))))
       node-joined r w' post (boolean x j need rs os ps) h =
@@ -227,7 +227,7 @@ module _ {E : Lent} {ix : Index} {p k o : ℕ} {st : List ℕ} {t : ℕ} where
               v.1.lead.x,
               v.1.lead.v,
               v.1.z,
-              joined_words q.0 (q.1 ++ (q.2 ++ q.3)) st w' (v.1.lead.x ++ (v.1.lead.v ++ v.1.z)) (r + 1) q.4 words,
+              joined_words q.0 (q.1 ++ (q.2 ++ q.3)) states w' (v.1.lead.x ++ (v.1.lead.v ++ v.1.z)) (r + 1) q.4 words,
               q.5,
               q.6,
               record {

@@ -1,17 +1,19 @@
-// Scorers over a lent state: the words of a node are its record and then its children's parts, one after the other.
+// Scorers over lent node states: the words of a node are its record and then its children's parts, one after the other.
 #![tactic(auto)]
 
 ghost use Rattle.std.specs.Prelude.{ℕ, ◌+◌, ◌≤◌, ◌<◌, ◌≡◌, get_or};
 ghost use Rattle.meaning.specs.Limits.{node_state_words};
-ghost use Rattle.scorer.specs.Calls.{AdvancePre, AdvancePost, TermPre, TermPost, RangePre, RangePost, AskPre, AskPost, PartsPre, Tally, LeastPost, DisjunctionPost, PassPost, LeadPre, StepPost, LeadPost, BooleanPre, BooleanPost};
-ghost use Rattle.leaf_scorer.specs.Calls.{lent_of};
-ghost use Rattle.leaf_scorer.specs.Buffers.{room, other_room, SameBuffers};
+ghost use Rattle.tree_weight.specs.declared.layout.TheConstants.{CACHED};
+ghost use Rattle.scorer.specs.Calls.{AdvancePre, AdvancePost, AdvanceTermPre, AdvanceTermPost, AdvanceRangePre, AdvanceRangePost, AskPre, AskPost, PartsPre, Tally, LeastPost, DisjunctionPost, PassPost, LeadPre, StepPost, LeadPost, ExcludingPre, ExcludingPost};
+ghost use Rattle.scorer_leaf.specs.Calls.{lists_of};
+ghost use Rattle.scorer_leaf.specs.Buffers.{room, other_room, SameBuffers};
 
-use leaf_scorer::{LeafReader, NO_MORE_DOCS, PhraseBuffers};
-use node::{Boolean, NodeKind, boolean_at, child_at};
-use weight::NODE_STATE_WORDS;
+use scorer_leaf::{LeafReader, NO_MORE_DOCS, PhraseBuffers};
+use tree_node::{Boolean, NodeKind, boolean_at, child_at};
+use tree_weight::NODE_STATE_WORDS;
+use tree_weight::layout::{CACHED, KIND};
 
-// The least of some documents, and how many of them it is.
+// The least document on which some children stand, and how many of them stand there.
 #[derive(Clone, Copy)]
 pub struct Standing {
     pub doc: u32,
@@ -37,98 +39,101 @@ impl Standing {
     }
 }
 
-// A node that is a term: two slices and no call that is not inlined, for loops over children.
-// Kept: no plainer by one function over a closure that seeks, for this and `advance_range`: it needs clauses on when it may be asked,
-// what it answers and how far it goes, in the place of seven lines; `advance` seeks through its own cycle.
-pub fn advance_term(st: &mut [u32], postings: &[u32], target: u32) -> u32
-    requires { TermPre postings.now st.old target }
-    ensures term_post { TermPost postings.now st.old target result st.new }
-    ensures st_after { get_or st.new 2 0 ≡ result + 1 }
+// `advance` of a term, for loops over children: all that it calls is inlined.
+// Kept: no plainer by one function over a closure that seeks, for this and `advance_range`: the closure needs clauses
+// on when it may be asked, what it answers and how far it goes, in the place of seven lines.
+pub fn advance_term(states: &mut [u32], postings: &[u32], target: u32) -> u32
+    requires { AdvanceTermPre postings.now states.old target }
+    ensures term_post { AdvanceTermPost postings.now states.old target result states.new }
+    ensures cached_after { get_or states.new CACHED 0 ≡ result + 1 }
 {
-    let cached = st[2];
+    let cached = states[CACHED];
     if target < cached {
         return cached - 1;
     }
-    let d = leaf_scorer::search_postings(st, postings, target);
-    st[2] = d + 1;
+    let d = scorer_leaf::search_postings(states, postings, target);
+    states[CACHED] = d + 1;
     d
 }
 
-// A node that is a range, likewise.
-fn advance_range(st: &mut [u32], ranges: &[u32], target: u32) -> u32
-    requires { RangePre ranges.now st.old target }
-    ensures { RangePost ranges.now st.old target result st.new }
+// `advance` of a range, likewise.
+fn advance_range(states: &mut [u32], ranges: &[u32], target: u32) -> u32
+    requires { AdvanceRangePre ranges.now states.old target }
+    ensures { AdvanceRangePost ranges.now states.old target result states.new }
 {
-    let cached = st[2];
+    let cached = states[CACHED];
     if target < cached {
         return cached - 1;
     }
-    let d = leaf_scorer::seek_range(st, ranges, target);
-    st[2] = d + 1;
+    let d = scorer_leaf::seek_range(states, ranges, target);
+    states[CACHED] = d + 1;
     d
 }
 
-// A node that is a phrase, asked by a pass from `from` on that has come to the target. Its positions cost most, so it is asked
-// only where no child before it moved the pass, and about no other document.
-// Kept: no plainer as one struct of the two, here and below: of them only `buffers` is lent for writing; with the reader in it, each clause would
-// also say that it stays.
+// Tests a phrase at the target, if the pass that began at `from` has not moved on: positions cost most, so a phrase is
+// asked about no document that another child has ruled out.
+// Kept: no plainer as one struct of the two, here and below: of them only `buffers` is lent for writing; with the
+// reader in it, each clause would also say that it stays.
 fn ask_phrase(
-    st: &mut [u32],
+    states: &mut [u32],
     reader: &LeafReader<'_>,
     buffers: &mut PhraseBuffers<'_>,
     from: u32,
     target: u32,
 ) -> u32
-    requires { AskPre reader.now.postings.now reader.now.positions.now (room buffers.old) (other_room buffers.old) st.old target }
-    ensures ask_post { AskPost reader.now.postings.now reader.now.positions.now st.old from target result st.new }
+    requires { AskPre reader.now.postings.now reader.now.positions.now (room buffers.old)
+        (other_room buffers.old) states.old target }
+    ensures ask_post { AskPost reader.now.postings.now reader.now.positions.now states.old from
+        target result states.new }
     ensures same_buffers { SameBuffers buffers.old buffers.new }
 {
     if from != target {
         return target;
     }
-    let d = leaf_scorer::phrase_at(st, reader, buffers, target);
+    let d = scorer_leaf::phrase_at(states, reader, buffers, target);
     if d != target {
         return d;
     }
-    st[2] = target + 1;
+    states[CACHED] = target + 1;
     target
 }
 
 // The first document at or after the target that the node matches, or NO_MORE_DOCS.
 #[cycle(advance_conjunction_disjunction_excluding_lead_least_pass_step)]
 pub fn advance(
-    st: &mut [u32],
+    states: &mut [u32],
     reader: &LeafReader<'_>,
     buffers: &mut PhraseBuffers<'_>,
     target: u32,
     depth: u32,
 ) -> u32
-    requires { AdvancePre (lent_of reader.now) (room buffers.old) (other_room buffers.old) st.old target depth }
-    ensures advance_post { AdvancePost (lent_of reader.now) st.old target depth result st.new }
-    ensures st_after { get_or st.new 2 0 ≡ result + 1 }
+    requires { AdvancePre (lists_of reader.now) (room buffers.old) (other_room buffers.old)
+        states.old target depth }
+    ensures advance_post { AdvancePost (lists_of reader.now) states.old target depth result states.new }
+    ensures cached_after { get_or states.new CACHED 0 ≡ result + 1 }
     ensures same_buffers { SameBuffers buffers.old buffers.new }
 {
-    let cached = st[2];
+    let cached = states[CACHED];
     if target < cached {
         return cached - 1;
     }
-    match NodeKind::from(st[0]) {
+    match NodeKind::from(states[KIND]) {
         NodeKind::Boolean => {
-            let n = boolean_at(st);
-            let kids = &mut st[NODE_STATE_WORDS..];
+            let n = boolean_at(states);
+            let kids = &mut states[NODE_STATE_WORDS..];
             let d = excluding(kids, reader, buffers, n, target, depth - 1);
-            st[2] = d + 1;
+            states[CACHED] = d + 1;
             d
         }
         _ => {
-            let d = leaf_scorer::seek(st, reader, buffers, target);
-            st[2] = d + 1;
+            let d = scorer_leaf::seek(states, reader, buffers, target);
+            states[CACHED] = d + 1;
             d
         }
     }
 }
 
-// The lead's documents that no prohibited child matches; where there is none, the lead's.
+// The next document of the required and optional children that no prohibited child matches (Lucene's ReqExclScorer).
 #[cycle(advance_conjunction_disjunction_excluding_lead_least_pass_step)]
 fn excluding(
     kids: &mut [u32],
@@ -138,8 +143,10 @@ fn excluding(
     target: u32,
     depth: u32,
 ) -> u32
-    requires { BooleanPre (lent_of reader.now) (room buffers.old) (other_room buffers.old) kids.old n.required_end n.optional_end target depth }
-    ensures boolean_post { BooleanPost (lent_of reader.now) kids.old n.required_end n.optional_end n.need target depth result kids.new }
+    requires { ExcludingPre (lists_of reader.now) (room buffers.old) (other_room buffers.old) kids.old
+        n.required_end n.optional_end target depth }
+    ensures boolean_post { ExcludingPost (lists_of reader.now) kids.old n.required_end n.optional_end
+        n.need target depth result kids.new }
     ensures same_buffers { SameBuffers buffers.old buffers.new }
 {
     let mut t = target;
@@ -170,8 +177,10 @@ fn lead(
     target: u32,
     depth: u32,
 ) -> u32
-    requires { LeadPre (lent_of reader.now) (room buffers.old) (other_room buffers.old) kids.old n.required_end target depth }
-    ensures lead_post { LeadPost (lent_of reader.now) kids.old n.required_end n.need target depth result kids.new }
+    requires { LeadPre (lists_of reader.now) (room buffers.old) (other_room buffers.old) kids.old
+        n.required_end target depth }
+    ensures lead_post { LeadPost (lists_of reader.now) kids.old n.required_end n.need target depth
+        result kids.new }
     ensures same_buffers { SameBuffers buffers.old buffers.new }
 {
     if n.required_end == 0 {
@@ -185,7 +194,7 @@ fn lead(
     }
 }
 
-// Passes until one moves nothing.
+// Advances the required children, and as many of the optional as are needed, until they stand on one document.
 #[cycle(advance_conjunction_disjunction_excluding_lead_least_pass_step)]
 fn conjunction(
     kids: &mut [u32],
@@ -195,8 +204,10 @@ fn conjunction(
     target: u32,
     depth: u32,
 ) -> u32
-    requires { LeadPre (lent_of reader.now) (room buffers.old) (other_room buffers.old) kids.old n.required_end target depth }
-    ensures lead_post { LeadPost (lent_of reader.now) kids.old n.required_end n.need target depth result kids.new }
+    requires { LeadPre (lists_of reader.now) (room buffers.old) (other_room buffers.old) kids.old
+        n.required_end target depth }
+    ensures lead_post { LeadPost (lists_of reader.now) kids.old n.required_end n.need target depth
+        result kids.new }
     ensures same_buffers { SameBuffers buffers.old buffers.new }
 {
     let mut d = target;
@@ -210,7 +221,7 @@ fn conjunction(
     }
 }
 
-// One pass over the required children and then, where some are needed, the optional.
+// Advances the required children once and then, where some are needed, the optional.
 #[cycle(advance_conjunction_disjunction_excluding_lead_least_pass_step)]
 fn step(
     kids: &mut [u32],
@@ -220,8 +231,10 @@ fn step(
     target: u32,
     depth: u32,
 ) -> u32
-    requires { LeadPre (lent_of reader.now) (room buffers.old) (other_room buffers.old) kids.old n.required_end target depth }
-    ensures step_post { StepPost (lent_of reader.now) kids.old n.required_end n.need target depth result kids.new }
+    requires { LeadPre (lists_of reader.now) (room buffers.old) (other_room buffers.old) kids.old
+        n.required_end target depth }
+    ensures step_post { StepPost (lists_of reader.now) kids.old n.required_end n.need target depth
+        result kids.new }
     ensures same_buffers { SameBuffers buffers.old buffers.new }
 {
     let end = n.required_end;
@@ -233,7 +246,7 @@ fn step(
     }
 }
 
-// Each child in turn, cheapest first, advanced to where the one before it got; phrases as `ask_phrase` says.
+// Advances each child to where the one before it got, cheapest first; phrases as `ask_phrase` says.
 #[cycle(advance_conjunction_disjunction_excluding_lead_least_pass_step)]
 fn pass(
     kids: &mut [u32],
@@ -242,13 +255,14 @@ fn pass(
     target: u32,
     depth: u32,
 ) -> u32
-    requires { PartsPre (lent_of reader.now) (room buffers.old) (other_room buffers.old) kids.old target depth }
-    ensures pass_post { PassPost (lent_of reader.now) kids.old target depth result kids.new }
+    requires { PartsPre (lists_of reader.now) (room buffers.old) (other_room buffers.old) kids.old
+        target depth }
+    ensures pass_post { PassPost (lists_of reader.now) kids.old target depth result kids.new }
     ensures same_buffers { SameBuffers buffers.old buffers.new }
 {
     let mut d = target;
     let mut at = 0;
-    // Kept: no plainer: parts differ in length and are lent for writing, so an iterator would hold `kids` and `at` itself.
+    // Kept: parts differ in length and are lent for writing, so an iterator would hold `kids` and `at` itself.
     while at < kids.len() {
         let child = child_at(kids, at);
         let end = child.end;
@@ -270,7 +284,7 @@ fn pass(
     d
 }
 
-// The first document on which at least `need` of the children stand; `need` is any word, so it is compared and never added to.
+// The first document that at least `need` of the children match; `need` may be any number, so nothing is added to it.
 #[cycle(advance_conjunction_disjunction_excluding_lead_least_pass_step)]
 fn disjunction(
     kids: &mut [u32],
@@ -280,8 +294,11 @@ fn disjunction(
     target: u32,
     depth: u32,
 ) -> u32
-    requires { (0 < need) × PartsPre (lent_of reader.now) (room buffers.old) (other_room buffers.old) kids.old target depth }
-    ensures disjunction_post { DisjunctionPost (lent_of reader.now) kids.old need target depth result kids.new }
+    requires { (0 < need)
+        × PartsPre (lists_of reader.now) (room buffers.old) (other_room buffers.old) kids.old target
+        depth }
+    ensures disjunction_post { DisjunctionPost (lists_of reader.now) kids.old need target depth
+        result kids.new }
     ensures same_buffers { SameBuffers buffers.old buffers.new }
 {
     let enough = need as usize;
@@ -300,7 +317,7 @@ fn disjunction(
     }
 }
 
-// The least document at or after the target where some child stands, and how many do.
+// The least document at or after the target that some child matches, and how many match it.
 #[cycle(advance_conjunction_disjunction_excluding_lead_least_pass_step)]
 fn least(
     kids: &mut [u32],
@@ -309,8 +326,10 @@ fn least(
     target: u32,
     depth: u32,
 ) -> Standing
-    requires { PartsPre (lent_of reader.now) (room buffers.old) (other_room buffers.old) kids.old target depth }
-    ensures least_post { LeastPost (lent_of reader.now) kids.old target depth result.doc result.count kids.new }
+    requires { PartsPre (lists_of reader.now) (room buffers.old) (other_room buffers.old) kids.old
+        target depth }
+    ensures least_post { LeastPost (lists_of reader.now) kids.old target depth result.doc
+        result.count kids.new }
     ensures same_buffers { SameBuffers buffers.old buffers.new }
 {
     let mut least = Standing {
@@ -318,7 +337,7 @@ fn least(
         count: 0,
     };
     let mut at = 0;
-    // Kept: no plainer: parts differ in length and are lent for writing, so an iterator would hold `kids` and `at` itself.
+    // Kept: parts differ in length and are lent for writing, so an iterator would hold `kids` and `at` itself.
     while at < kids.len() {
         let child = child_at(kids, at);
         let end = child.end;

@@ -21,14 +21,14 @@ use Rattle.meaning.specs.Refusals.{◌when◌, lowest}
 use Rattle.meaning.specs.CallRefusals.{Work, wrong11, states_needed, starts_needed, ranges_needed, starts_short, work_short, wrong12_search, wrong12_page, wrong13_page}
 use Rattle.meaning.specs.Entries.{answered, written, top_docs, order_conditions, search_refusal, search_answer, search_hits, page_of, page_refusal, page_answer, page_documents, page_scores}
 use Rattle.query.proofs.Whole.{whole}
-use Rattle.weight.specs.State.{size_of}
-use Rattle.weight.specs.Held as Held
-use Rattle.order_check.specs.Lends.{work}
-use Rattle.order_check.proofs.Refusing.{order-asks, order-refused}
-use Rattle.node_words.specs.declared.state.NodeState.{NodeState}
-use Rattle.node_state.specs.Records.{record_words, held}
-use Rattle.node_state.specs.Standing.{Standing, tree_of}
-use Rattle.node_state.proofs.Turns.{words_append}
+use Rattle.tree_weight.specs.State.{size_of}
+use Rattle.tree_weight.specs.Held as Held
+use Rattle.check_order.specs.WorkOf.{work}
+use Rattle.check_order.proofs.Refusing.{order-asks, order-refused}
+use Rattle.tree_words.specs.declared.state.NodeState.{NodeState}
+use Rattle.tree_records.specs.Records.{record_words, held}
+use Rattle.tree_records.specs.Standing.{Standing, order_tree}
+use Rattle.tree_records.proofs.Turns.{words_append}
 
 -- ---- the refusals
 few-same : (m c : ℕ) → c ≤ max_records → (s : Bool) → ltb (node_state_words * m) (node_state_words * c) ≡ s → ltb (node_state_words * held m) (node_state_words * c) ≡ s
@@ -100,14 +100,14 @@ module _ (ix : Index) (q ranges words more : List ℕ) (from : ℕ) where
   pub standing-front : Standing ix q ranges words from → Standing ix q ranges (words ++ more) from
   standing-front s = record {
     within = let l = length-append words more in omega (arith, s.within, l);
-    ok = subst (λ (w : List ℕ). Held.Ok ix ranges (tree_of ix q) 16 0 w from) (sym (take-append-le (size_of (tree_of ix q)) words more s.within)) s.ok;
+    ok = subst (λ (w : List ℕ). Held.Ok ix ranges (order_tree ix q) 16 0 w from) (sym (take-append-le (size_of (order_tree ix q)) words more s.within)) s.ok;
   }
 
   -- with room in the front
-  pub standing-cut : size_of (tree_of ix q) ≤ length words → Standing ix q ranges (words ++ more) from → Standing ix q ranges words from
+  pub standing-cut : size_of (order_tree ix q) ≤ length words → Standing ix q ranges (words ++ more) from → Standing ix q ranges words from
   standing-cut h s = record {
     within = h;
-    ok = subst (λ (w : List ℕ). Held.Ok ix ranges (tree_of ix q) 16 0 w from) (take-append-le (size_of (tree_of ix q)) words more h) s.ok;
+    ok = subst (λ (w : List ℕ). Held.Ok ix ranges (order_tree ix q) 16 0 w from) (take-append-le (size_of (order_tree ix q)) words more h) s.ok;
   }
 
 -- all records begin with the first n
@@ -120,7 +120,7 @@ module _ (ix : Index) (q ranges words : List ℕ) (from n : ℕ) (nodes : List N
       subst (λ (w : List ℕ). Standing ix q ranges w from) (sym (front-records n nodes))
       (standing-front ix q ranges (record_words (take n nodes)) (record_words (drop n nodes)) from (subst (λ (w : List ℕ). Standing ix q ranges w from) (sym e) s))
 
-  pub records-standing : size_of (tree_of ix q) ≤ length words → Standing ix q ranges (record_words nodes) from → Standing ix q ranges words from
+  pub records-standing : size_of (order_tree ix q) ≤ length words → Standing ix q ranges (record_words nodes) from → Standing ix q ranges words from
   records-standing h s =
       subst (λ (w : List ℕ). Standing ix q ranges w from) e
-      (standing-cut ix q ranges (record_words (take n nodes)) (record_words (drop n nodes)) from (subst (λ (w : List ℕ). size_of (tree_of ix q) ≤ length w) (sym e) h) (subst (λ (w : List ℕ). Standing ix q ranges w from) (front-records n nodes) s))
+      (standing-cut ix q ranges (record_words (take n nodes)) (record_words (drop n nodes)) from (subst (λ (w : List ℕ). size_of (order_tree ix q) ≤ length w) (sym e) h) (subst (λ (w : List ℕ). Standing ix q ranges w from) (front-records n nodes) s))

@@ -15,14 +15,14 @@ use Rattle.std.specs.Prelude.{Result, Ok, Err}
 use Rattle.refusal.specs.declared.Refusal.{Refusal}
 use Rattle.refusal.specs.Numbers.{number_of, refusal_of}
 use Rattle.refusal.proofs.Positive.{number-not-0}
-use Rattle.order_check.specs.Lends.{work}
-use Rattle.node_words.specs.declared.state.NodeState.{NodeState}
-use Rattle.node_state.specs.Records.{record_words, held}
-use Rattle.node_state.specs.Standing.{Standing, tree_of}
-use Rattle.weight.specs.State.{size_of}
+use Rattle.check_order.specs.WorkOf.{work}
+use Rattle.tree_words.specs.declared.state.NodeState.{NodeState}
+use Rattle.tree_records.specs.Records.{record_words, held}
+use Rattle.tree_records.specs.Standing.{Standing, order_tree}
+use Rattle.tree_weight.specs.State.{size_of}
 use Rattle.searcher.specs.Answers.{searched_numbers, paged_numbers, used}
 use Rattle.searcher.specs.declared.buffers.Buffers.{Buffers}
-use Rattle.searcher.specs.WorkBuffers.{lengths_of, KeptBuffers, SameBuffers, WordsLent, Packed, ReadBack}
+use Rattle.searcher.specs.WorkBuffers.{lengths_of, KeptBuffers, SameWorkBuffers, WordsLent, Packed, ReadBack}
 use Rattle.searcher.proofs.Preparing.{same-work}
 use Rattle.searcher.proofs.Fewer.{standing-records, records-standing}
 
@@ -67,12 +67,12 @@ module _ (words : List ℕ) (b : Buffers NodeState) (w : Buffers ℕ) (long : no
   lengths-are = same-work _ _ _ _ _ _ _ _ room (ap length lent.starts_are) (ap length lent.other_starts_are) (ap length lent.ranges_are)
 
   -- what stands in the records stands in the words that were copied out, where there is room for it
-  pub records-out : (ix : Index) (q : List ℕ) (from : ℕ) → take (node_state_words * n) words ≡ record_words (take n b.states.now) → size_of (tree_of ix q) ≤ length w.states.now → Standing ix q b.ranges.now (record_words b.states.now) from → Standing ix q w.ranges.now w.states.now from
+  pub records-out : (ix : Index) (q : List ℕ) (from : ℕ) → take (node_state_words * n) words ≡ record_words (take n b.states.now) → size_of (order_tree ix q) ≤ length w.states.now → Standing ix q b.ranges.now (record_words b.states.now) from → Standing ix q w.ranges.now w.states.now from
   records-out ix q from e size s =
       records-standing ix q w.ranges.now w.states.now from n b.states.now (sym e ∙ sym lent.states_are) size
       (subst (λ (ranges : List ℕ). Standing ix q ranges (record_words b.states.now) from) (sym lent.ranges_are) s)
 
-  module _ {T : Type 0} (b' : Buffers NodeState) (w' : Buffers ℕ) (same : SameBuffers w w') (r : Result T Refusal) (back : ReadBack words b b' w' (used r n)) where
+  module _ {T : Type 0} (b' : Buffers NodeState) (w' : Buffers ℕ) (same : SameWorkBuffers w w') (r : Result T Refusal) (back : ReadBack words b b' w' (used r n)) where
     -- a refused call leaves the records too as they were
     pub records-kept : (z : ℕ) → refusal_of r ≡ z → KeptBuffers z w w' → KeptBuffers z b b'
     records-kept z told kept = record {

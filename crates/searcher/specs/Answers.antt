@@ -1,4 +1,5 @@
--- What each answer of Search and Page says in document 01's numbers: a refusal's number alone, or 0 and the entry's values. Assumes nothing: these are definitions.
+-- What each answer of Search and Page says in document 01's numbers: a refusal's number alone, or 0 and the entry's
+-- values. Assumes nothing: these are definitions.
 use Rattle.std.specs.Prelude.{List, [], ◌∷◌, ℕ, Result, Ok, Err}
 use Rattle.collector.specs.Collected.{numbers}
 use Rattle.collector.specs.declared.TopDocs.{TopDocs}

@@ -3,6 +3,7 @@
 
 pub mod buffers;
 pub mod length;
+mod over_tree;
 pub mod page;
 mod reader;
 pub mod records;

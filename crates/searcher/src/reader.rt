@@ -1,20 +1,16 @@
 // What a walk reads.
-ghost use Rattle.std.specs.Prelude.{◌≡◌};
-ghost use Rattle.scorer.specs.Calls.{lent as lent_words, lent_of};
+ghost use Rattle.searcher.specs.WalkLent.{ReadsIndex};
 
 use index::lent::Lent;
-use leaf_scorer::LeafReader;
+use scorer_leaf::LeafReader;
 
-// Of the index, with the inverses and the bitmaps of an order.
+// The reader of an index for an order: its slices, with the order's inverse norms and the bitmaps of its ranges.
 pub(crate) fn reader_of<'a>(
     lent: &Lent<'a>,
     inverses: &'a [f32],
     ranges: &'a [u32],
 ) -> LeafReader<'a>
-    ensures words { lent_of result ≡ lent_words lent.now.max_doc lent.now.postings.now lent.now.positions.now ranges.now }
-    ensures norms { result.norms.now ≡ lent.now.norms.now }
-    ensures inverses { result.inverses.now ≡ inverses.now }
-    ensures live { result.live.now ≡ lent.now.live.now }
+    ensures { ReadsIndex lent.now inverses.now ranges.now result }
 {
     LeafReader {
         max_doc: lent.max_doc,

@@ -1,5 +1,5 @@
--- The inverse of a length from 0 to 2 ^ 31 and an average from 1 to 2 ^ 24 lies between its values at the ends: finite, and above zero;
--- of a length of any size it is finite and not negative. Assumes nothing.
+-- The inverse of a length from 0 to 2 ^ 31 and an average from 1 to 2 ^ 24 lies between its values at the ends: finite,
+-- and above zero; of a length of any size it is finite and not negative. Assumes nothing.
 use Prim.Native.Nat.{ℕ, zero-le, ◌*◌, ◌≤◌, ◌<◌, ◌^◌}
 use native.Mathlib.Nat.{le_trans, le_of_eq, zero-mul, mul-le-mul_right}
 use native.Mathlib.Omega.{arith}
@@ -20,6 +20,7 @@ use Rattle.ieee754.proofs.Patterns.{bits-finite}
 use Rattle.ieee754.proofs.Ranges.{Within, round-within, round-clear, add-within, mul-within, div-within, within-self}
 use Rattle.ieee754.proofs.Bounds.{pattern-within}
 use Rattle.sim.proofs.Codes.{byte4_to_int-le}
+use Rattle.sim.specs.declared.bm25.TheConstants.{INVERSES}
 
 -- the ends
 abbrev pub two_to : ℕ → Float
@@ -157,3 +158,7 @@ unfolding length_of of_int
 any-inverse-within average n h k =
     let v = byte4_to_int n in
     clear-inverse (of_bits binary32 average) (round binary32 false v 1) (average-within average h k) (round-fits binary32 false v 1) (round-clear binary32 v 1)
+
+-- a norm byte has 256 values, and each has its inverse
+pub each-byte : INVERSES ≡ 256
+each-byte = refl

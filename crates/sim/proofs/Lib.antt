@@ -1,4 +1,4 @@
--- The laws that the crates above cite.
+-- SmallFloat's codes and lengths, and the bounds of inverses and scores: for the crates above.
 pub mod Codes
 pub mod ByteLengths
 pub mod Tables

@@ -1,4 +1,5 @@
--- A score lies from 0 to its weight, for every frequency from 0 to 2 ^ 24, every average and every number in a byte's place; and what weights are at most. Assumes nothing.
+-- A score lies from 0 to its weight, for every frequency from 0 to 2 ^ 24, every average and every number in a byte's
+-- place; and what weights are at most. Assumes nothing.
 use mathlib.Core.Path.{◌≡◌, refl, sym, ap, ◌∙◌, subst}
 use mathlib.Core.List.{List}
 use Prim.Native.Nat.{ℕ, zero-le, ◌-◌, ◌*◌, ◌^◌, ◌≤◌, ◌<◌}

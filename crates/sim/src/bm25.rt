@@ -2,13 +2,17 @@
 ghost use Rattle.std.specs.Prelude.{◌≡◌};
 ghost use Rattle.meaning.specs.Below.{list_to};
 ghost use Rattle.meaning.specs.Bm25.{length_of, inverse, weight, bm25};
+ghost use Rattle.sim.specs.declared.bm25.TheConstants.{INVERSES};
 
 use crate::lengths::length_of;
+
+// One inverse for each norm byte.
+pub const INVERSES: usize = 256;
 
 // The inverse of each length code's norm, for a field's average length.
 #[derive(Drop)]
 pub struct Bm25 {
-    pub cache: [f32; 256],
+    pub cache: [f32; INVERSES],
 }
 
 impl Bm25 {
@@ -23,9 +27,9 @@ impl Bm25 {
     }
 
     pub fn new(average: f32) -> Bm25
-        ensures { result.cache ≡ list_to 256 (λ n. inverse average (length_of n)) }
+        ensures { result.cache ≡ list_to INVERSES (λ n. inverse average (length_of n)) }
     {
-        let mut cache = [0.0; 256];
+        let mut cache = [0.0; INVERSES];
         for (norm, inverse) in cache.iter_mut().enumerate() {
             *inverse = Bm25::norm_inverse(average, length_of(norm));
         }

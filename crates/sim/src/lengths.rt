@@ -2,7 +2,7 @@
 ghost use Rattle.std.specs.Prelude.{◌≡◌, ◌<◌};
 ghost use Rattle.meaning.specs.Bm25.{length_of};
 
-// What `byte4_to_int` gives for each byte, written out: an inverse then waits for no call and no branch.
+// What `byte4_to_int` gives for each byte, as a table: an inverse then needs no call and no branch.
 #[rattlefmt::skip]
 const LENGTHS: [f32; 256] = [
     0.0, 1.0, 2.0, 3.0, 4.0, 5.0, 6.0, 7.0,

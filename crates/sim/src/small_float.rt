@@ -1,11 +1,12 @@
-// Lucene's SmallFloat: a length as a byte, with four significant digits.
+// Lucene's SmallFloat: a length as a byte, with four significant bits.
 ghost use Rattle.std.specs.Prelude.{◌≡◌, ◌<◌, ◌≤◌};
 ghost use Rattle.meaning.specs.SmallFloat.{long_to_int4, int4_to_long, int_to_byte4, byte4_to_int};
 
-// The bytes that stand for themselves.
+// So many of the smallest lengths are their own bytes.
 const NUM_FREE_VALUES: u32 = 24;
 
-// The shift + 1 in front of the three digits after the first; fewer than four digits are their own code.
+// A number's four highest bits: the shift + 1, then the three bits after the leading one. Fewer than four are their own
+// code.
 pub fn long_to_int4(i: u64) -> u32
     ensures { result ≡ long_to_int4 i }
 {
@@ -18,7 +19,7 @@ pub fn long_to_int4(i: u64) -> u32
     }
 }
 
-// Back from a code of `long_to_int4`, which is below 496.
+// The number that a code of `long_to_int4` stands for; such a code is below 496.
 pub fn int4_to_long(i: u32) -> u64
     requires { i < 496 }
     ensures { result ≡ int4_to_long i }

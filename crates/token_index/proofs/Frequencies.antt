@@ -1,4 +1,5 @@
--- The postings of a leaf's run, one by one: frequencies and documents within their limits, documents and positions rising. Assumes nothing.
+-- The postings of a leaf's run, one by one: frequencies and documents within their limits, documents and positions
+-- rising. Assumes nothing.
 use mathlib.Core.Path.{◌≡◌, refl, sym, ap, subst, ◌∙◌}
 use mathlib.Core.Logic.{⊎_elim}
 use mathlib.Core.Bool.{Bool, true, false, cond, ◌&&◌}

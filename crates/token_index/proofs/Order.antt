@@ -1,4 +1,5 @@
--- What tokens, leaves and fields are where 15 does not hold: from neighbours in order to any two tokens. Assumes nothing.
+-- What tokens, leaves and fields are where 15 does not hold: from neighbours in order to any two tokens.
+-- Assumes nothing.
 use mathlib.Core.Path.{◌≡◌, refl, sym, ap, subst, ◌∙◌}
 use mathlib.Core.Bool.{Bool, true, false, not, ◌&&◌, ◌||◌, false≢true}
 use mathlib.Core.List.{List, [], ◌∷◌}

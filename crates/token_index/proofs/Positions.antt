@@ -1,4 +1,5 @@
--- The positions of a leaf in a document: of tokens one after the other, of tokens that are all there or none of which is. Assumes nothing.
+-- The positions of a leaf in a document: of tokens one after the other, of tokens that are all there or none of which
+-- is. Assumes nothing.
 use mathlib.Core.Path.{◌≡◌, refl, sym, ap, ap₂, ◌∙◌}
 use mathlib.Core.Bool.{Bool, true, false, cond, ◌&&◌, false≢true}
 use mathlib.Core.List.{List, [], ◌∷◌, ◌++◌, append_assoc, append-nil}

@@ -100,7 +100,8 @@ pub run_none : (p : Bool) (n l : ℕ) → run_for p n [] l ≡ []
 run_none p n l = run-below p n [] l 0 (omega arith) (λ d c k. at-nil l d) ∙ run-zero p [] l
 
 -- ---- by the number of tokens
--- tokens of leaf l in document d, and none of l beyond d before them: what is before d stays, and d's posting is the last
+-- tokens of leaf l in document d, and none of l beyond d before them: what is before d stays, and d's posting is the
+-- last
 module _ (p : Bool) (n : ℕ) (ws : List ℕ) (l d i e : ℕ)
     (order : i < e)
     (below : d < n)

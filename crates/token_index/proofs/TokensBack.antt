@@ -1,4 +1,5 @@
--- "Reading the written index back must yield the tokens", in a field without positions all but their positions. Assumes nothing.
+-- "Reading the written index back must yield the tokens", in a field without positions all but their positions.
+-- Assumes nothing.
 use mathlib.Core.Path.{◌≡◌, refl, sym, ap, ap₂, ◌∙◌}
 use mathlib.Core.Bool.{Bool, true, false, cond}
 use mathlib.Core.List.{List, [], ◌∷◌, ◌++◌, map, map-append, append_assoc, append-nil}

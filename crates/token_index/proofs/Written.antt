@@ -1,4 +1,5 @@
--- The index that is written from tokens holds the leaves' runs, packed; nothing is asked of the tokens. Assumes nothing.
+-- The index that is written from tokens holds the leaves' runs, packed; nothing is asked of the tokens.
+-- Assumes nothing.
 use mathlib.Core.Path.{◌≡◌, refl, sym, ap, subst, ◌∙◌}
 use mathlib.Core.Bool.{Bool, true, false, cond}
 use mathlib.Core.List.{List, [], ◌∷◌, map}

@@ -24,7 +24,7 @@ use Rattle.index.specs.Slices.{fields_only}
 use Rattle.index.proofs.Known.{fields-few}
 use Rattle.packed.proofs.Longer.{postings-length}
 use Rattle.token_index.proofs.Written.{runs_number}
-use Rattle.norm_writer.specs.Lengths.{norm_bytes, RunsOk}
+use Rattle.token_norms.specs.Lengths.{norm_bytes, RunsOk}
 use Rattle.refusal.specs.declared.Refusal.{Refusal}
 use Rattle.refusal.specs.Numbers.{number_of}
 use Rattle.tokens.specs.declared.Numbers.{Numbers}

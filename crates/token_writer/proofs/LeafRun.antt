@@ -19,7 +19,7 @@ use Rattle.token_index.proofs.Runs.{run_none, run-longer, run-other, run-grows}
 use Rattle.tokens.specs.declared.Token.{Token}
 use Rattle.tokens.specs.Records.{token_of}
 use Rattle.token_writer.specs.declared.postings.Cursor.{Cursor}
-use Rattle.token_writer.specs.Writing.{Begins, PostingsPre, PostingsPost, RunPre, RunPost}
+use Rattle.token_writer.specs.Writing.{Begins, WritePostingsPre, WritePostingsPost, WriteRunPre, WriteRunPost}
 use Rattle.meaning.proofs.Stores.{sets_behind, sets_over}
 
 -- the run of leaf l in the first i tokens
@@ -82,7 +82,7 @@ pub record Turn (n : ℕ) (ws : List ℕ) (l : ℕ) (p : Bool) (from posting pos
 pub upto-length : (n : ℕ) (ws : List ℕ) (l : ℕ) (p : Bool) (from posting position : ℕ) (postings₀ postings : List ℕ) (token next start : ℕ) (before : Option ℕ) → Upto n ws l p from posting position postings₀ postings token next start before → length postings ≡ length postings₀
 upto-length n ws l p from posting position postings₀ postings token next start before h = ap length h.written ∙ length-sets postings₀ (3 * posting) (pack_run p position (run_to p n ws l token))
 
-module _ (n m : ℕ) (ws : List ℕ) (l : ℕ) (p : Bool) (from posting position a : ℕ) (pre : PostingsPre n m ws l p from posting position a) (postings₀ : List ℕ) where
+module _ (n m : ℕ) (ws : List ℕ) (l : ℕ) (p : Bool) (from posting position a : ℕ) (pre : WritePostingsPre n m ws l p from posting position a) (postings₀ : List ℕ) where
   -- the position of the leaf's token j
   abbrev place : ℕ → ℕ
   place j = (token_at ws (from + j)).position
@@ -309,7 +309,7 @@ module _ (n m : ℕ) (ws : List ℕ) (l : ℕ) (p : Bool) (from posting position
     all-places : positions_in (run_for p n (tokens_of ws) l) ≡ list_to (cond p (i - from) 0) place
     all-places = ap positions_in (sym all-written) ∙ places-now postings i next start before done
 
-    pub upto-end : (r : Cursor) (number : ℕ) → number ≡ cond p (i - from) 0 → r.token ≡ i → r.posting ≡ next → r.position ≡ position + number → PostingsPost n ws l p from posting position postings₀ postings r
+    pub upto-end : (r : Cursor) (number : ℕ) → number ≡ cond p (i - from) 0 → r.token ≡ i → r.posting ≡ next → r.position ≡ position + number → WritePostingsPost n ws l p from posting position postings₀ postings r
     upto-end r number e x y z =
         let few = number-le p (i - from) in
         let behind = done.first in
@@ -327,12 +327,12 @@ module _ (n m : ℕ) (ws : List ℕ) (l : ℕ) (p : Bool) (from posting position
         }
 
 -- ---- the postings and then the positions
-pub run-postings : (n m : ℕ) (ws : List ℕ) (l : ℕ) (p : Bool) (from posting position a b : ℕ) → RunPre n m ws l p from posting position a b → PostingsPre n m ws l p from posting position a
+pub run-postings : (n m : ℕ) (ws : List ℕ) (l : ℕ) (p : Bool) (from posting position a b : ℕ) → WriteRunPre n m ws l p from posting position a b → WritePostingsPre n m ws l p from posting position a
 run-postings n m ws l p from posting position a b h = record { few_documents = h.few_documents; tokens = h.tokens; begins = h.begins; few_postings = h.few_postings; few_positions = h.few_positions; postings_fit = h.postings_fit }
 
 pub run-placed : (n : ℕ) (ws : List ℕ) (l : ℕ) (p : Bool) (from posting position : ℕ) (postings positions postings' positions' : List ℕ) (r : Cursor)
-    → PostingsPost n ws l p from posting position postings postings' r
+    → WritePostingsPost n ws l p from posting position postings postings' r
     → positions' ≡ sets positions position (list_to (r.position - position) (λ j. (token_at ws (from + j)).position))
-    → RunPost n ws l p posting position postings positions postings' positions' r
+    → WriteRunPost n ws l p posting position postings positions postings' positions' r
 run-placed n ws l p from posting position postings positions postings' positions' r h e =
     record { begins = h.begins; few_postings = h.few_postings; few_positions = h.few_positions; posting_end = h.posting_end; position_end = h.position_end; written = h.written; placed = e ∙ ap (sets positions position) (sym h.places) }

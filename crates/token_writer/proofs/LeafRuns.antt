@@ -21,7 +21,7 @@ use Rattle.packed.proofs.Joined.{join-next, join-same, rows-length}
 use Rattle.packed.proofs.Longer.{postings-append, pack-positions-append, postings-in-append, postings-length, firsts_at}
 use Rattle.token_index.proofs.Order.{tokens-ok, leaf-field}
 use Rattle.token_writer.specs.declared.postings.Cursor.{Cursor}
-use Rattle.token_writer.specs.Writing.{Begins, RunPre, RunPost, RunsPre, RunsPost}
+use Rattle.token_writer.specs.Writing.{Begins, WriteRunPre, WriteRunPost, RunsPre, RunsPost}
 use Rattle.meaning.proofs.Stores.{sets_behind, sets-front}
 
 take-list_to {ℓ} : {A : Type ℓ} (f : ℕ → A) (l n : ℕ) → l ≤ n → take l (list_to n f) ≡ list_to l f
@@ -169,7 +169,7 @@ module _ (n : ℕ) (fields leaf_fields ws : List ℕ) where
       )
 
       -- the next leaf's run can be written
-      pub run_fits : leaf < length leaf_fields → (b : Bool) → b ≡ positional fields leaf_fields leaf → RunPre n (length leaf_fields) ws leaf b token posting position (length postings) (length positions)
+      pub run_fits : leaf < length leaf_fields → (b : Bool) → b ≡ positional fields leaf_fields leaf → WriteRunPre n (length leaf_fields) ws leaf b token posting position (length postings) (length positions)
       run_fits h b is =
           rw is (record {
             few_documents = pre.few_documents;
@@ -186,7 +186,7 @@ module _ (n : ℕ) (fields leaf_fields ws : List ℕ) where
           → (b : Bool) (first : ℕ) (postings' positions' runs' : List ℕ) (r : Cursor)
           → b ≡ positional fields leaf_fields leaf
           → first ≡ posting
-          → RunPost n ws leaf b posting position postings positions postings' positions' r
+          → WriteRunPost n ws leaf b posting position postings positions postings' positions' r
           → runs' ≡ sets runs (2 * leaf) (first ∷ (r.posting - posting) ∷ [])
           → Filled postings₀ positions₀ runs₀ postings' positions' runs' r.token r.posting r.position (leaf + 1)
       filled_next h b first postings' positions' runs' r is at post' e =
@@ -205,8 +205,8 @@ module _ (n : ℕ) (fields leaf_fields ws : List ℕ) where
           p : Bool
           p = positional fields leaf_fields leaf
 
-          post : RunPost n ws leaf p posting position postings positions postings' positions' r
-          post = subst (λ (q : Bool). RunPost n ws leaf q posting position postings positions postings' positions' r) is post'
+          post : WriteRunPost n ws leaf p posting position postings positions postings' positions' r
+          post = subst (λ (q : Bool). WriteRunPost n ws leaf q posting position postings positions postings' positions' r) is post'
 
           number : r.posting - posting ≡ length (run_at leaf)
           number = omega (arith, post.posting_end)

@@ -28,7 +28,7 @@ use Rattle.token_index.proofs.Runs.{frequency_in, run-below, run-frequency}
 use Rattle.token_index.proofs.Order.{few-leaves, tokens-ok}
 use Rattle.token_index.proofs.Frequencies.{documents-rise, field-tokens-fit}
 use Rattle.token_index.proofs.Written.{runs_number, runs-at, written-packs}
-use Rattle.norm_writer.specs.Lengths.{run_first, run_number, in_run, in_leaf, length_in, norm_bytes, RunOk, RunsOk}
+use Rattle.token_norms.specs.Lengths.{run_first, run_number, frequency_in_run, in_leaf, length_in, norm_bytes, RunOk, RunsOk}
 
 -- stands for a posting where there is none; it is never read
 abbrev nothing : Posting
@@ -190,8 +190,8 @@ module _ (n : ℕ) (fields leaf_fields ws : List ℕ) (right : wrong15 n fields 
         (cmp d n)
 
     -- what the words say of document d is what the tokens say
-    in-run : (d : ℕ) → in_run ps (run_first runs l) (run_number runs l) d ≡ length (positions_at (tokens_of ws) l d)
-    unfolding in_run
+    in-run : (d : ℕ) → frequency_in_run ps (run_first runs l) (run_number runs l) d ≡ length (positions_at (tokens_of ws) l d)
+    unfolding frequency_in_run
     in-run d =
         sum_same (run_number runs l) (frequency_at run d) (λ i. cond (eqb (posting_document ps (run_first runs l) i) d) (posting_frequency ps (run_first runs l) i) 0)
         (λ i h. ap₂ (λ (a b : ℕ). cond (eqb a d) b 0) (document-is i h) (frequency-is i h))

@@ -1,26 +1,24 @@
 // The postings and positions of the tokens, leaf by leaf, posting by posting, and the run of each leaf.
-ghost use Rattle.std.specs.Prelude.{◌≡◌, cond, ℕ, ◌+◌, ◌*◌, ◌<◌, ◌≤◌, length};
+ghost use Rattle.std.specs.Prelude.{◌≡◌, cond, ℕ, ◌+◌, ◌*◌, ◌≤◌, length};
 ghost use Rattle.std.proofs.lemmas.List.Edits.{sets};
 ghost use Rattle.meaning.specs.Below.{list_to};
 ghost use Rattle.meaning.specs.Tokens.{token_count, token_at};
-ghost use Rattle.token_writer.specs.Writing.{PostingsPre, PostingsPost, RunPre, RunPost, RunsPre, RunsPost};
+ghost use Rattle.token_writer.specs.Writing.{WritePostingsPre, WritePostingsPost, WriteRunPre, WriteRunPost, RunsPre, RunsPost};
 
 use tokens::{TokenRecords, token_at, token_count};
 
-// The words of a leaf's run: first posting, number of postings.
-pub const RUN_WORDS: usize = 2;
-
-// The positions of the tokens from one on.
+// Copies the positions of the tokens from `from` on.
 fn copy_positions(tokens: &[u32], from: usize, positions: &mut [u32])
     requires { from + length positions.old ≤ token_count tokens.now }
-    ensures { positions.new ≡ list_to (length positions.old) (λ j. (token_at tokens.now (from + j)).position) }
+    ensures { positions.new ≡ list_to (length positions.old)
+        (λ j. (token_at tokens.now (from + j)).position) }
 {
     for (j, position) in positions.iter_mut().enumerate() {
         *position = token_at(tokens, from + j).position;
     }
 }
 
-// The words of a record, behind so many records of its length.
+// Writes record `number`, of N words, behind those before it.
 fn write_record<const N: usize>(words: &mut [u32], number: usize, values: [u32; N])
     requires { N * number + N ≤ length words.old }
     ensures { words.new ≡ sets words.old (N * number) values.entry }
@@ -45,9 +43,10 @@ pub struct Cursor {
     pub position: usize,
 }
 
-// The postings of a leaf, whose tokens begin at the cursor, behind those that are written. A posting is written again with each
-// of its tokens, so that no branch hangs on where it ends.
-// Kept: no plainer: no switch, here and in `write_run`: whether the leaf's field has positions is a number in the sum of what is written.
+// The postings of a leaf, whose tokens begin at the cursor, behind those that are written. A posting is written again
+// with each of its tokens, so that no branch hangs on where it ends.
+// Kept: no plainer: no switch, here and in `write_run`:
+// whether the leaf's field has positions is a number in the sum of what is written.
 fn write_postings(
     records: TokenRecords,
     at: Cursor,
@@ -55,8 +54,11 @@ fn write_postings(
     positional: bool,
     postings: &mut [u32],
 ) -> Cursor
-    requires { (n : ℕ) × (m : ℕ) × PostingsPre n m records.tokens.now leaf positional at.token at.posting at.position (length postings.old) }
-    ensures { (n m : ℕ) → PostingsPre n m records.entry.tokens.now leaf positional at.token at.posting at.position (length postings.old) → PostingsPost n records.entry.tokens.now leaf positional at.token at.posting at.position postings.old postings.new result }
+    requires { (n : ℕ) × (m : ℕ) × WritePostingsPre n m records.tokens.now leaf positional at.token at.posting
+        at.position (length postings.old) }
+    ensures { (n m : ℕ) → WritePostingsPre n m records.entry.tokens.now leaf positional at.token at.posting
+        at.position (length postings.old) → WritePostingsPost n records.entry.tokens.now leaf positional at.token
+        at.posting at.position postings.old postings.new result }
 {
     let mut end = at;
     let mut start = at.token;
@@ -93,8 +95,12 @@ fn write_run(
     postings: &mut [u32],
     positions: &mut [u32],
 ) -> Cursor
-    requires { (n : ℕ) × (m : ℕ) × RunPre n m records.tokens.now leaf positional at.token at.posting at.position (length postings.old) (length positions.old) }
-    ensures { (n m : ℕ) → RunPre n m records.entry.tokens.now leaf positional at.token at.posting at.position (length postings.old) (length positions.old) → RunPost n records.entry.tokens.now leaf positional at.posting at.position postings.old positions.old postings.new positions.new result }
+    requires { (n : ℕ) × (m : ℕ) × WriteRunPre n m records.tokens.now leaf positional at.token at.posting
+        at.position (length postings.old) (length positions.old) }
+    ensures { (n m : ℕ) → WriteRunPre n m records.entry.tokens.now leaf positional at.token at.posting
+        at.position (length postings.old) (length positions.old)
+        → WriteRunPost n records.entry.tokens.now leaf positional at.posting at.position postings.old
+        positions.old postings.new positions.new result }
 {
     let end = write_postings(records, at, leaf, positional, postings);
     copy_positions(
@@ -112,8 +118,12 @@ pub fn write_runs(
     positions: &mut [u32],
     runs: &mut [u32],
 )
-    requires { (n : ℕ) × RunsPre n records.fields.now records.leaf_fields.now records.tokens.now (length postings.old) (length positions.old) (length runs.old) }
-    ensures { (n : ℕ) → RunsPre n records.entry.fields.now records.entry.leaf_fields.now records.entry.tokens.now (length postings.old) (length positions.old) (length runs.old) → RunsPost n records.entry.fields.now records.entry.leaf_fields.now records.entry.tokens.now postings.old positions.old runs.old postings.new positions.new runs.new }
+    requires { (n : ℕ) × RunsPre n records.fields.now records.leaf_fields.now records.tokens.now
+        (length postings.old) (length positions.old) (length runs.old) }
+    ensures { (n : ℕ) → RunsPre n records.entry.fields.now records.entry.leaf_fields.now
+        records.entry.tokens.now (length postings.old) (length positions.old) (length runs.old)
+        → RunsPost n records.entry.fields.now records.entry.leaf_fields.now records.entry.tokens.now
+        postings.old positions.old runs.old postings.new positions.new runs.new }
 {
     let mut at = Cursor {
         token: 0,

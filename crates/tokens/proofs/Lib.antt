@@ -1,2 +1,2 @@
--- The laws of the tokens' check.
+-- One token's tests, as refusal 15 says them.
 pub mod OneToken

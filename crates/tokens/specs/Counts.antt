@@ -1,4 +1,5 @@
--- How many postings and positions a list of tokens fills, counted token by token. Assumes nothing: these are definitions.
+-- How many postings and positions a list of tokens fills, counted token by token.
+-- Assumes nothing: these are definitions.
 use Rattle.std.specs.Prelude.{◌≡◌, Bool, not, ◌||◌, List, ℕ, ◌-◌, eqb}
 use Rattle.meaning.specs.Below.{count_below}
 use Rattle.meaning.specs.Tokens.{token_count, token_at, positional}
@@ -6,7 +7,9 @@ use Rattle.tokens.specs.declared.Numbers.{Numbers}
 
 -- a posting begins at the first token, and where the leaf or the document differs from the token before
 unfoldable pub begins_posting : List ℕ → ℕ → Bool
-begins_posting ws i = eqb i 0 || not (eqb (token_at ws i).leaf (token_at ws (i - 1)).leaf) || not (eqb (token_at ws i).document (token_at ws (i - 1)).document)
+begins_posting ws i =
+    eqb i 0 || not (eqb (token_at ws i).leaf (token_at ws (i - 1)).leaf)
+    || not (eqb (token_at ws i).document (token_at ws (i - 1)).document)
 
 -- the numbers are those of the tokens that begin a posting, and of those that have a position
 pub record Counts (fields leaf_fields ws : List ℕ) (r : Numbers) : Type 0 where

@@ -5,4 +5,9 @@ use Rattle.tokens.specs.declared.Token.{Token}
 
 -- the words of token i
 abbrev pub token_of : List ℕ → ℕ → Token
-token_of ws i = record { leaf = (token_at ws i).leaf; document = (token_at ws i).document; position = (token_at ws i).position }
+token_of ws i =
+    record {
+      leaf = (token_at ws i).leaf;
+      document = (token_at ws i).document;
+      position = (token_at ws i).position;
+    }

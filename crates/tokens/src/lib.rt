@@ -1,9 +1,10 @@
-// Token records, three words each: leaf, document, position; what 15 asks of them, and how many postings and positions they fill.
+// Token records, three words each: leaf, document, position;
+// what 15 asks of them, and how many postings and positions they fill.
 #![tactic(auto)]
 
 ghost use Rattle.std.specs.Prelude.{◌≡◌, false, ◌<◌, ◌-◌, length, is_err, IfOk, IfErr, MatchOption};
 ghost use Rattle.meaning.specs.Below.{any_below};
-ghost use Rattle.meaning.specs.Tokens.{token_count, token_at, not_after, positional};
+ghost use Rattle.meaning.specs.Tokens.{token_count, positional};
 ghost use Rattle.meaning.specs.TokenRefusals.{wrong_token, wrong_leaf_field, wrong15};
 ghost use Rattle.tokens.specs.Records.{token_of};
 ghost use Rattle.tokens.specs.Counts.{begins_posting, Counts};
@@ -11,6 +12,9 @@ ghost use Rattle.tokens.specs.Counts.{begins_posting, Counts};
 use index::leaves::MAX_LEAVES;
 use index::{fields, postings};
 use refusal::Refusal;
+
+// The words of a token.
+const TOKEN_WORDS: usize = 3;
 
 // The limit of the request: 16,777,216 tokens.
 const MAX_TOKENS: usize = 16777216;
@@ -27,7 +31,7 @@ pub struct Token {
 pub fn token_count(tokens: &[u32]) -> usize
     ensures { result ≡ token_count tokens.now }
 {
-    tokens.len() / 3
+    tokens.len() / TOKEN_WORDS
 }
 
 // Token number i.
@@ -36,9 +40,9 @@ pub fn token_at(tokens: &[u32], i: usize) -> Token
     ensures { result ≡ token_of tokens.now i }
 {
     Token {
-        leaf: tokens[3 * i],
-        document: tokens[3 * i + 1],
-        position: tokens[3 * i + 2],
+        leaf: tokens[TOKEN_WORDS * i],
+        document: tokens[TOKEN_WORDS * i + 1],
+        position: tokens[TOKEN_WORDS * i + 2],
     }
 }
 
@@ -97,7 +101,8 @@ impl TokenRecords<'_> {
 
     // Whether a leaf's field has positions.
     pub fn is_positional(self, leaf: usize) -> bool
-        requires { (leaf < length self.leaf_fields.now) × (wrong_leaf_field self.fields.now self.leaf_fields.now leaf ≡ false) }
+        requires { (leaf < length self.leaf_fields.now)
+            × (wrong_leaf_field self.fields.now self.leaf_fields.now leaf ≡ false) }
         ensures { result ≡ positional self.entry.fields.now self.entry.leaf_fields.now leaf }
     {
         fields::field_at(self.fields, self.leaf_fields[leaf] as usize).has_positions()
@@ -105,10 +110,13 @@ impl TokenRecords<'_> {
 
     // The tokens one after the other, up to the first that is wrong.
     fn count_tokens(self) -> Result<Numbers, Refusal>
-        requires { any_below (length self.leaf_fields.now) (wrong_leaf_field self.fields.now self.leaf_fields.now) ≡ false }
-        ensures wrong { is_err result ≡ any_below (token_count self.entry.tokens.now) (wrong_token self.entry.max_doc self.entry.leaf_fields.now self.entry.tokens.now) }
+        requires { any_below (length self.leaf_fields.now)
+            (wrong_leaf_field self.fields.now self.leaf_fields.now) ≡ false }
+        ensures wrong { is_err result ≡ any_below (token_count self.entry.tokens.now)
+            (wrong_token self.entry.max_doc self.entry.leaf_fields.now self.entry.tokens.now) }
         ensures refusal { IfErr result (λ r. r ≡ Refusal.Tokens) }
-        ensures counts { IfOk result (Counts self.entry.fields.now self.entry.leaf_fields.now self.entry.tokens.now) }
+        ensures counts { IfOk result
+            (Counts self.entry.fields.now self.entry.leaf_fields.now self.entry.tokens.now) }
     {
         let mut postings = 0;
         let mut positions = 0;
@@ -128,7 +136,8 @@ impl TokenRecords<'_> {
 
     // Whether some leaf's field is absent.
     fn wrong_leaf_fields(self) -> bool
-        ensures { result ≡ any_below (length self.entry.leaf_fields.now) (wrong_leaf_field self.entry.fields.now self.entry.leaf_fields.now) }
+        ensures { result ≡ any_below (length self.entry.leaf_fields.now)
+            (wrong_leaf_field self.entry.fields.now self.entry.leaf_fields.now) }
     {
         let number = fields::field_count(self.fields);
         self.leaf_fields.iter().any(|f| *f as usize >= number)
@@ -136,11 +145,13 @@ impl TokenRecords<'_> {
 
     // 15, the tokens and the leaves' fields, and how many postings and positions the tokens fill.
     pub fn check(self) -> Result<Numbers, Refusal>
-        ensures wrong { is_err result ≡ wrong15 self.entry.max_doc self.entry.fields.now self.entry.leaf_fields.now self.entry.tokens.now }
+        ensures wrong { is_err result ≡ wrong15 self.entry.max_doc self.entry.fields.now
+            self.entry.leaf_fields.now self.entry.tokens.now }
         ensures refusal { IfErr result (λ r. r ≡ Refusal.Tokens) }
-        ensures counts { IfOk result (Counts self.entry.fields.now self.entry.leaf_fields.now self.entry.tokens.now) }
+        ensures counts { IfOk result
+            (Counts self.entry.fields.now self.entry.leaf_fields.now self.entry.tokens.now) }
     {
-        if (self.tokens.len() % 3 != 0)
+        if (self.tokens.len() % TOKEN_WORDS != 0)
             | (token_count(self.tokens) > MAX_TOKENS)
             | (self.leaf_fields.len() > MAX_LEAVES)
             | self.wrong_leaf_fields()

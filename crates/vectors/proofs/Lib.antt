@@ -1,2 +1,2 @@
--- The law that the proofs of this crate cite.
+-- Which patterns are numbers.
 pub mod Patterns

@@ -5,7 +5,8 @@ use std::io::Read;
 use std::rt::Files;
 use std::{fs, io};
 
-// How many bytes of the file stand at the front of the buffer. One that cannot be opened is told of on standard error, and has none.
+// How many bytes of the file stand at the front of the buffer.
+// One that cannot be opened is told of on standard error, and has none.
 pub fn read_bytes(rt: &(impl Files + Eprint), path: &str, bytes: &mut [u8]) -> io::Result<usize>
     ensures { IfOk result (λ n. n ≤ length bytes.new) }
 {
@@ -20,7 +21,8 @@ pub fn read_bytes(rt: &(impl Files + Eprint), path: &str, bytes: &mut [u8]) -> i
     }
 }
 
-// Reads until the file ends or the buffer is full: how many bytes, as an error where a read failed behind them.
+// Reads until the file ends or the buffer is full; gives how many bytes were read, as an error where a read failed
+// after them.
 pub fn read_all(file: &mut impl Read, bytes: &mut [u8]) -> Result<usize, usize>
     ensures { MatchResult result (λ n. n ≤ length bytes.new) (λ n. n ≤ length bytes.new) }
 {
@@ -37,7 +39,7 @@ pub fn read_all(file: &mut impl Read, bytes: &mut [u8]) -> Result<usize, usize>
     Ok(done)
 }
 
-// So many of a list from the first one on; none where they aren't within it.
+// `number` items of a list from `first` on; none where they do not lie within it.
 fn part<T>(list: &[T], first: u32, number: u32) -> &[T] {
     let begin = first as usize;
     let end = begin + number as usize;
@@ -76,7 +78,7 @@ pub fn read_long_words<'a>(words: &[u32], longs: &'a mut [u64]) -> &'a [u64] {
     first(longs, number)
 }
 
-// So many of a list, or all.
+// The first `number` items of a list, or all.
 pub fn first<T>(list: &[T], number: usize) -> &[T]
     ensures { result.now ≡ take number list.now }
 {

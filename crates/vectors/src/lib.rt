@@ -1,4 +1,5 @@
-// What the programs of vectors share: values from patterns, files of words, what values and answers print as, numbers from a seed.
+// What the programs of vectors share: values from patterns, files of words, what values and answers print as,
+// numbers from a seed.
 #![tactic(auto)]
 
 pub mod file;
@@ -42,8 +43,8 @@ impl Format for f32 {
     }
 }
 
-// Kept: a rule of the project: the two differ in a type and three constants, and the gate takes no impl that a macro of the
-// repository wrote.
+// Kept: a rule of the project: the two differ in a type and three constants,
+// and the gate takes no impl that a macro of the repository wrote.
 impl Format for f64 {
     type Bits = u64;
 

@@ -1,7 +1,7 @@
 // Numbers from a seed.
 ghost use Rattle.std.specs.Prelude.{◌≤◌};
 
-// Marsaglia's xorshift: the next number of a sequence that began with one other than 0.
+// Marsaglia's xorshift: the next number of a sequence that began with a number other than 0.
 pub fn xorshift(x: u64) -> u64 {
     let a = x ^ (x << 13);
     let b = a ^ (a >> 7);
@@ -34,7 +34,7 @@ impl Iterator for Seeds {
     }
 }
 
-// What a number leaves, divided by `end`; 0 where that is 0.
+// x modulo `end`; 0 where `end` is 0.
 pub fn below(x: u64, end: u32) -> u32
     ensures { result ≤ end }
 {

@@ -10,11 +10,11 @@ use Rattle.meaning.specs.First.{First}
 use Rattle.meaning.specs.FullList.{ScoreDoc}
 use Rattle.meaning.specs.Pages.{PageOf, page}
 use Rattle.meaning.specs.Entries.{written}
-use Rattle.weight.specs.ScorerTree.{Scorer, matches, scorer_score}
-use Rattle.weight.specs.Held.{Ok}
-use Rattle.weight.specs.Sound.{Lends}
-use Rattle.scorer.specs.Calls.{Lent, RoomIn, NodeHeld}
-use Rattle.leaf_score.specs.Asked.{Scorable}
+use Rattle.tree_weight.specs.ScorerTree.{Scorer, matches, scorer_score}
+use Rattle.tree_weight.specs.Held.{Ok}
+use Rattle.tree_weight.specs.Sound.{Lends}
+use Rattle.scorer.specs.Calls.{Lists, RoomIn, NodeHeld}
+use Rattle.score_leaf.specs.Asked.{Scorable}
 use Rattle.walk.specs.declared.Listed.{Listed}
 
 -- a live document of the index that the scorer matches
@@ -30,27 +30,34 @@ unfoldable pub live_scored : Index → Scorer → List ScoreDoc
 live_scored ix s = map (scored ix s) (list_below ix.max_doc (λ d. is_live ix d && matches ix s d))
 
 -- some index and tree that the words hold, with these live words
-abbrev pub NextPre : Lent → List ℕ → ℕ → ℕ → List ℕ → ℕ → ℕ → Type 0
-NextPre E live a b st from depth =
-    (from ≤ no_more_docs) × ((ix : Index) × (places : ℕ) × (s : Scorer) × (scores : ℕ) × RoomIn places a b × (ix.live ≡ live) × NodeHeld E ix places s depth scores st from)
+abbrev pub NextPre : Lists → List ℕ → ℕ → ℕ → List ℕ → ℕ → ℕ → Type 0
+NextPre E live starts other_starts states from depth =
+    (from ≤ no_more_docs) × ((ix : Index) × (places : ℕ) × (s : Scorer) × (scores : ℕ)
+    × RoomIn places starts other_starts × (ix.live ≡ live)
+    × NodeHeld E ix places s depth scores states from)
 
 -- for each of them, the first live match; the words can be asked from there on
-abbrev pub NextPost : Lent → List ℕ → List ℕ → ℕ → ℕ → ℕ → List ℕ → Type 0
-NextPost E live st from depth r st' =
-    (ix : Index) (places : ℕ) (s : Scorer) (scores : ℕ) → ix.live ≡ live → NodeHeld E ix places s depth scores st from → First (live_match ix s) from r × Ok ix E.ranges s depth scores st' r
+abbrev pub NextPost : Lists → List ℕ → List ℕ → ℕ → ℕ → ℕ → List ℕ → Type 0
+NextPost E live states from depth r states' =
+    (ix : Index) (places : ℕ) (s : Scorer) (scores : ℕ) → ix.live ≡ live
+    → NodeHeld E ix places s depth scores states from → First (live_match ix s) from r
+    × Ok ix E.ranges s depth scores states' r
 
 -- what a page asks: a tree whose scores can be worked out, with these norms and live words
-pub record PageHeld (E : Lent) (norms live : List ℕ) (table : List Float) (ix : Index) (places : ℕ) (s : Scorer) (depth scores : ℕ) (st : List ℕ) (from : ℕ) : Type 0 where
+pub record PageHeld (E : Lists) (norms live : List ℕ) (table : List Float) (ix : Index) (places : ℕ)
+    (s : Scorer) (depth scores : ℕ) (states : List ℕ) (from : ℕ) : Type 0 where
   pub lends : Lends ix E.documents E.postings E.positions
   pub norms-are : ix.norms ≡ norms
   pub live-are : ix.live ≡ live
   pub scorable : Scorable ix table places s
-  pub ok : Ok ix E.ranges s depth scores st from
+  pub ok : Ok ix E.ranges s depth scores states from
 
 -- outputs of equal length, as Page has them; phrase buffers of so many places
-abbrev pub ListPre : Lent → List ℕ → List ℕ → List Float → ℕ → List ℕ → ℕ → ℕ → List ℕ → List ℕ → Type 0
-ListPre E norms live table places st from depth docs bits =
-    (from ≤ no_more_docs) × (length docs ≡ length bits) × ((ix : Index) × (s : Scorer) × (scores : ℕ) × PageHeld E norms live table ix places s depth scores st from)
+abbrev pub ListPre : Lists → List ℕ → List ℕ → List Float → ℕ → List ℕ → ℕ → ℕ → List ℕ → List ℕ → Type 0
+ListPre E norms live table places states from depth docs bits =
+    (from ≤ no_more_docs) × (length docs ≡ length bits)
+    × ((ix : Index) × (s : Scorer) × (scores : ℕ)
+    × PageHeld E norms live table ix places s depth scores states from)
 
 -- the outputs afterwards, and the answer, are those of the page
 pub record PageIs (p : PageOf) (docs bits : List ℕ) (r : Listed) (docs' bits' : List ℕ) : Type 0 where
@@ -59,6 +66,9 @@ pub record PageIs (p : PageOf) (docs bits : List ℕ) (r : Listed) (docs' bits' 
   pub documents-are : docs' ≡ written (map (λ h. h.doc) p.given) docs
   pub scores-are : bits' ≡ written (map (λ h. to_bits binary32 h.score) p.given) bits
 
-abbrev pub ListPost : Lent → List ℕ → List ℕ → List Float → ℕ → List ℕ → ℕ → ℕ → List ℕ → List ℕ → Listed → List ℕ → List ℕ → List ℕ → Type 0
-ListPost E norms live table places st from depth docs bits r st' docs' bits' =
-    (ix : Index) (s : Scorer) (scores : ℕ) → PageHeld E norms live table ix places s depth scores st from → PageIs (page from (length docs) (live_scored ix s)) docs bits r docs' bits' × Ok ix E.ranges s depth scores st' r.next
+abbrev pub ListPost : Lists → List ℕ → List ℕ → List Float → ℕ → List ℕ → ℕ → ℕ → List ℕ → List ℕ → Listed
+    → List ℕ → List ℕ → List ℕ → Type 0
+ListPost E norms live table places states from depth docs bits r states' docs' bits' =
+    (ix : Index) (s : Scorer) (scores : ℕ) → PageHeld E norms live table ix places s depth scores states from
+    → PageIs (page from (length docs) (live_scored ix s)) docs bits r docs' bits'
+    × Ok ix E.ranges s depth scores states' r.next

@@ -5,18 +5,19 @@ ghost use Rattle.window.specs.Windows.{Cursor, Gathers};
 
 use run::Postings;
 
-// The bits, and where the cursor stands behind the window.
+// The window's documents as bits, and the first place of the run behind the window.
 #[derive(Clone, Copy)]
 pub struct InWindow {
     pub bits: u64,
     pub at: usize,
 }
 
-// The documents from a place on that lie in the window at base. Inlined, so that the run stays in registers.
+// The documents of the window at `base`, of a run from `from` on. Inlined, so that the run stays in registers.
 #[inline(always)]
 pub fn gathered(postings: Postings<'_>, from: usize, base: u32) -> InWindow
     requires { Cursor postings.words.now postings.stride postings.first postings.count base from }
-    ensures { Gathers postings.entry.words.now postings.entry.stride postings.entry.first postings.entry.count base from result.bits result.at }
+    ensures { Gathers postings.entry.words.now postings.entry.stride postings.entry.first
+        postings.entry.count base from result.bits result.at }
 {
     let mut w = 0;
     for i in from..postings.count {

@@ -5,15 +5,15 @@ use mathlib.Core.Bool.{and-false}
 use Rattle.meaning.specs.Limits.{no_more_docs}
 use Rattle.meaning.specs.Lent.{Index}
 use Rattle.bits.specs.Bit.{bit}
-use Rattle.weight.specs.ScorerTree.{Scorers, any_matches}
-use Rattle.leaf_scorer.specs.declared.PhraseBuffers.{PhraseBuffers}
-use Rattle.leaf_scorer.specs.Calls.{Lent, RoomIn}
-use Rattle.leaf_scorer.specs.Buffers.{room, other_room, SameBuffers}
-use Rattle.leaf_scorer.proofs.Loops.{same_refl, same_then}
+use Rattle.tree_weight.specs.ScorerTree.{Scorers, any_matches}
+use Rattle.scorer_leaf.specs.declared.PhraseBuffers.{PhraseBuffers}
+use Rattle.scorer_leaf.specs.Calls.{Lists, RoomIn}
+use Rattle.scorer_leaf.specs.Buffers.{room, other_room, SameBuffers}
+use Rattle.scorer_leaf.proofs.Loops.{same_refl, same_then}
 use Rattle.window_words.specs.Windowed.{nowhere, places_of, optional_bound, AllWindowed}
 use Rattle.window_words.proofs.Laws.{all-less, all-mono, all-length}
 use Rattle.window_leaf.specs.Asks.{Answers, Wanted, lent_at}
-use Rattle.window_bits.specs.Parts.{asked_before, asked_by, asked_after, all_of, Through, SomeWindowed, Called, PassPre, PassPost, PhrasesPost, PartsPre, enough, OptionalPost, ExcludedPost, BooleanWindowed, takes, BooleanKnown}
+use Rattle.window_bits.specs.Parts.{asked_before, asked_by, asked_after, all_of, Through, SomeWindowed, Called, RequiredBitsPre, RequiredBitsPost, PhrasesPost, PartsBitsPre, enough, OptionalBitsPost, ExcludedPost, BooleanWindowed, parts_take, BooleanKnown}
 use Rattle.window_bits.proofs.Matching.{all-passes}
 use Rattle.window_bits.proofs.Passes.{before-first, between, after-last}
 
@@ -98,7 +98,7 @@ bound-same false b = omega arith
 
 -- ---- the four questions
 -- what was asked of a Boolean's children: room for a phrase is needed where they are asked, and not for what they answer
-pub record Entry (E : Lent) (kids : List ℕ) (e o need base want k : ℕ) : Type 0 where
+pub record Entry (E : Lists) (kids : List ℕ) (e o need base want k : ℕ) : Type 0 where
   pub n : ℕ
   pub ix : Index
   pub places : ℕ
@@ -111,28 +111,28 @@ pub record Entry (E : Lent) (kids : List ℕ) (e o need base want k : ℕ) : Typ
   pub held : BooleanWindowed ix E.ranges rs os ps k e o need kids base base nowhere
 
 -- .. and what each question leaves
-pub record FirstPass (E : Lent) (b b' : PhraseBuffers) (kids : List ℕ) (base want k r next : ℕ) (skip : Bool) (kids' : List ℕ) : Type 0 where
+pub record FirstPass (E : Lists) (b b' : PhraseBuffers) (kids : List ℕ) (base want k r next : ℕ) (skip : Bool) (kids' : List ℕ) : Type 0 where
   pub same_length : length kids' ≡ length kids
-  pub post : PassPost E (room b) (other_room b) kids false base want k r next skip kids'
+  pub post : RequiredBitsPost E (room b) (other_room b) kids false base want k r next skip kids'
   pub same_buffers : SameBuffers b b'
 
-pub record OptionalAsked (E : Lent) (b b' : PhraseBuffers) (kids : List ℕ) (need base want k r next : ℕ) (kids' : List ℕ) : Type 0 where
+pub record OptionalAsked (E : Lists) (b b' : PhraseBuffers) (kids : List ℕ) (need base want k r next : ℕ) (kids' : List ℕ) : Type 0 where
   pub same_length : length kids' ≡ length kids
-  pub post : OptionalPost E (room b) (other_room b) kids need base want k r next kids'
+  pub post : OptionalBitsPost E (room b) (other_room b) kids need base want k r next kids'
   pub same_buffers : SameBuffers b b'
 
-pub record ExcludedAsked (E : Lent) (b b' : PhraseBuffers) (kids : List ℕ) (base want k r : ℕ) (kids' : List ℕ) : Type 0 where
+pub record ExcludedAsked (E : Lists) (b b' : PhraseBuffers) (kids : List ℕ) (base want k r : ℕ) (kids' : List ℕ) : Type 0 where
   pub post : ExcludedPost E (room b) (other_room b) kids base want k r kids'
   pub same_buffers : SameBuffers b b'
 
-pub record SecondPass (E : Lent) (b : PhraseBuffers) (kids : List ℕ) (skip : Bool) (base want k r next : ℕ) (kids' : List ℕ) : Type 0 where
+pub record SecondPass (E : Lists) (b : PhraseBuffers) (kids : List ℕ) (skip : Bool) (base want k r next : ℕ) (kids' : List ℕ) : Type 0 where
   pub same_length : length kids' ≡ length kids
   pub post : PhrasesPost E (room b) (other_room b) kids skip base want k r next kids'
 
-called-on : (E : Lent) {n places base want : ℕ} {b b' : PhraseBuffers} → base + 64 ≤ no_more_docs → Wanted n base want → RoomIn places (room b) (other_room b) → SameBuffers b b' → Called (lent_at E n) places (room b') (other_room b') base want
-called-on E h w r s = record { small = h; wanted = w; room = record { in-a = omega (arith, r.in-a, s.starts_length); in_b = omega (arith, r.in_b, s.other_starts_length) } }
+called-on : (E : Lists) {n places base want : ℕ} {b b' : PhraseBuffers} → base + 64 ≤ no_more_docs → Wanted n base want → RoomIn places (room b) (other_room b) → SameBuffers b b' → Called (lent_at E n) places (room b') (other_room b') base want
+called-on E h w r s = record { small = h; wanted = w; room = record { in-starts = omega (arith, r.in-starts, s.starts_length); in-other = omega (arith, r.in-other, s.other_starts_length) } }
 
-module _ {E : Lent} {kids : List ℕ} {e o need base want k : ℕ} (s : Entry E kids e o need base want k) where
+module _ {E : Lists} {kids : List ℕ} {e o need base want k : ℕ} (s : Entry E kids e o need base want k) where
   pub words₀ : Three kids s.held.x s.held.v s.held.z e o
   words₀ =
       let l = all-length s.ix E.ranges s.rs k s.held.x base base nowhere s.held.required in
@@ -142,7 +142,7 @@ module _ {E : Lent} {kids : List ℕ} {e o need base want k : ℕ} (s : Entry E 
   held₁ : SomeWindowed (asked_before false) s.ix E.ranges s.rs k (take e kids) base (places_of want)
   held₁ = subst (λ (q : List ℕ). SomeWindowed (asked_before false) s.ix E.ranges s.rs k q base (places_of want)) (sym (three-first words₀)) (before-first s.ix E.ranges k base s.rs s.held.x (places_of want) s.held.required)
 
-  pub first-pre : (b : PhraseBuffers) → RoomIn s.places (room b) (other_room b) → PassPre E (room b) (other_room b) (take e kids) false base want k
+  pub first-pre : (b : PhraseBuffers) → RoomIn s.places (room b) (other_room b) → RequiredBitsPre E (room b) (other_room b) (take e kids) false base want k
   first-pre b h = (s.n, s.ix, s.places, s.rs, called-on E s.small s.wanted h (same_refl b), s.known.required, held₁)
 
   module _ {b b₁ : PhraseBuffers} {r₁ next₁ : ℕ} {skip : Bool} {x₁ : List ℕ} (q₁ : FirstPass E b b₁ (take e kids) base want k r₁ next₁ skip x₁) where
@@ -166,7 +166,7 @@ module _ {E : Lent} {kids : List ℕ} {e o need base want k : ℕ} (s : Entry E 
         let c : ℕ = optional_bound need base base in
         subst (λ (q : List ℕ). AllWindowed s.ix E.ranges s.os k q base base nowhere) (sym (three-second words₁)) (all-less s.ix E.ranges s.os k s.held.v base base (λ p. ltb 0 need && nowhere p) nowhere (λ p l t. absurd (false≢true t)) (all-mono s.ix E.ranges s.os k s.held.v c base (λ p. ltb 0 need && nowhere p) base (bound-same (ltb 0 need) base) s.held.optional))
 
-    pub optional-pre : RoomIn s.places (room b) (other_room b) → PartsPre E (room b₁) (other_room b₁) (take (o - e) (drop e (x₁ ++ drop e kids))) base r₁ k
+    pub optional-pre : RoomIn s.places (room b) (other_room b) → PartsBitsPre E (room b₁) (other_room b₁) (take (o - e) (drop e (x₁ ++ drop e kids))) base r₁ k
     optional-pre h = (s.n, s.ix, s.places, s.os, called-on E s.small wanted₁ h q₁.same_buffers, s.known.optional, held₂)
 
     module _ {b₂ : PhraseBuffers} {r₂ next₂ : ℕ} {v₂ : List ℕ} (q₂ : OptionalAsked E b₁ b₂ (take (o - e) (drop e (x₁ ++ drop e kids))) need base r₁ k r₂ next₂ v₂) {kids₂ : List ℕ} (is₂ : kids₂ ≡ take e (x₁ ++ drop e kids) ++ (v₂ ++ drop (o - e) (drop e (x₁ ++ drop e kids)))) where
@@ -185,7 +185,7 @@ module _ {E : Lent} {kids : List ℕ} {e o need base want k : ℕ} (s : Entry E 
       held₃ : AllWindowed s.ix E.ranges s.ps k (take (length kids₂ - o) (drop o kids₂)) base base nowhere
       held₃ = subst (λ (q : List ℕ). AllWindowed s.ix E.ranges s.ps k q base base nowhere) (sym (three-third words₂)) s.held.prohibited
 
-      pub excluded-pre : RoomIn s.places (room b) (other_room b) → PartsPre E (room b₂) (other_room b₂) (take (length kids₂ - o) (drop o kids₂)) base r₂ k
+      pub excluded-pre : RoomIn s.places (room b) (other_room b) → PartsBitsPre E (room b₂) (other_room b₂) (take (length kids₂ - o) (drop o kids₂)) base r₂ k
       excluded-pre h = (s.n, s.ix, s.places, s.ps, called-on E s.small wanted₂ h (same_then q₁.same_buffers q₂.same_buffers), s.known.prohibited, held₃)
 
       module _ {b₃ : PhraseBuffers} {r₃ : ℕ} {z₃ : List ℕ} (q₃ : ExcludedAsked E b₂ b₃ (take (length kids₂ - o) (drop o kids₂)) base r₂ k r₃ z₃) {kids₃ : List ℕ} (is₃ : kids₃ ≡ take o kids₂ ++ (z₃ ++ drop (length kids₂ - o) (drop o kids₂))) where
@@ -207,7 +207,7 @@ module _ {E : Lent} {kids : List ℕ} {e o need base want k : ℕ} (s : Entry E 
         through₄ : skip ≡ false → Through false s.rs r₃
         through₄ h = ⊎_elim (λ none. inl (λ p l. false_from_ne_true (bit p r₃) (λ t. false≢true (sym (none p l) ∙ within₂ p l (within₃ p l t))))) (λ t. inr t) (done₁.2 h)
 
-        pub second-pre : RoomIn s.places (room b) (other_room b) → PassPre E (room b₃) (other_room b₃) (take e kids₃) true base r₃ k
+        pub second-pre : RoomIn s.places (room b) (other_room b) → RequiredBitsPre E (room b₃) (other_room b₃) (take e kids₃) true base r₃ k
         second-pre h = (s.n, s.ix, s.places, s.rs, called-on E s.small wanted₃ h (same_then q₁.same_buffers (same_then q₂.same_buffers q₃.same_buffers)), s.known.required, held₄)
 
         module _ {r₄ next₄ : ℕ} {x₄ : List ℕ} (q₄ : SecondPass E b₃ (take e kids₃) skip base r₃ k r₄ next₄ x₄) {next₃ next : ℕ} (j₃ : next₃ ≡ max next₁ next₂) (j₄ : next ≡ max next₃ next₄) where
@@ -226,10 +226,10 @@ module _ {E : Lent} {kids : List ℕ} {e o need base want k : ℕ} (s : Entry E 
           abbrev N : ℕ → Bool
           N d = not (any_matches s.ix s.ps d)
 
-          taken-is : (d : ℕ) → takes s.ix s.rs s.os s.ps need d ≡ ((A d && B d) && N d && enough s.ix s.os need d)
+          taken-is : (d : ℕ) → parts_take s.ix s.rs s.os s.ps need d ≡ ((A d && B d) && N d && enough s.ix s.os need d)
           taken-is d = ap (λ (t : Bool). t && N d && enough s.ix s.os need d) (all-passes s.ix s.rs d)
 
-          left : (p : ℕ) → p < 64 → bit p r₄ ≡ (bit p want && takes s.ix s.rs s.os s.ps need (base + p))
+          left : (p : ℕ) → p < 64 → bit p r₄ ≡ (bit p want && parts_take s.ix s.rs s.os s.ps need (base + p))
           left p l =
               let d : ℕ = base + p in
               done₄.0.bits p l
@@ -237,7 +237,7 @@ module _ {E : Lent} {kids : List ℕ} {e o need base want k : ℕ} (s : Entry E 
               ∙ taken (bit p want) (A d) (B d) (N d) (enough s.ix s.os need d)
               ∙ ap (λ (t : Bool). bit p want && t) (sym (taken-is d))
 
-          gap : (d : ℕ) → base + 64 ≤ d → d < next → takes s.ix s.rs s.os s.ps need d ≡ false
+          gap : (d : ℕ) → base + 64 ≤ d → d < next → parts_take s.ix s.rs s.os s.ps need d ≡ false
           gap d u t =
               taken-is d
               ∙ ⊎_elim
@@ -246,7 +246,7 @@ module _ {E : Lent} {kids : List ℕ} {e o need base want k : ℕ} (s : Entry E 
               ⊎_elim (λ (h' : d < next₂). not-enough (A d) (B d) (N d) (enough s.ix s.os need d) (done₂.0.gap d u h')) (λ (h' : next₂ ≤ d). not-second (A d) (B d) (N d) (enough s.ix s.os need d) (done₄.0.gap d u (omega (arith, t, j₃, j₄, h, h')))) (cases_lt d next₂))
               (cases_lt d next₁)
 
-          pub boolean-answers : Answers (takes s.ix s.rs s.os s.ps need) base (places_of want) r₄ next × BooleanWindowed s.ix E.ranges s.rs s.os s.ps k e o need (x₄ ++ drop e kids₃) (base + 64) base (places_of r₄)
+          pub boolean-answers : Answers (parts_take s.ix s.rs s.os s.ps need) base (places_of want) r₄ next × BooleanWindowed s.ix E.ranges s.rs s.os s.ps k e o need (x₄ ++ drop e kids₃) (base + 64) base (places_of r₄)
           boolean-answers =
               let w = put-first words₃ x₄ q₄.same_length in (
                 record { bits = left; gap = gap; top = omega (arith, j₃, j₄, done₁.0.top, done₂.0.top, done₄.0.top) },

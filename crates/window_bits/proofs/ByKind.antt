@@ -2,10 +2,10 @@
 use Rattle.std.proofs.Common.{◌≡◌, refl, sym, ap, ◌∙◌, Bool, true, false, not, cond, ℕ, eqb, ⊎_elim}
 use Rattle.std.proofs.lemmas.Bool.{eqb-false, false≢true, true≢false}
 use Rattle.std.proofs.lemmas.Bool.Decides.{eqb_tells}
-use Rattle.node.specs.declared.NodeKind.{NodeKind}
-use Rattle.node.specs.declared.NodeKind.TheVariants.{Nothing, Term, Phrase, Boolean, Range, Everything, PhraseTerm}
-use Rattle.node.specs.Kinds.{kind_of, kind_word}
-use Rattle.node.proofs.KindLaws.{word-of}
+use Rattle.tree_node.specs.declared.NodeKind.{NodeKind}
+use Rattle.tree_node.specs.declared.NodeKind.TheVariants.{Nothing, Term, Phrase, Boolean, Range, Everything, PhraseTerm}
+use Rattle.tree_node.specs.Kinds.{node_kind, kind_word}
+use Rattle.tree_node.proofs.KindLaws.{word-of}
 use Rattle.window_bits.specs.declared.Asks.{Asks}
 use Rattle.window_bits.specs.Parts.{phrase_kind, phrases_only}
 
@@ -18,11 +18,11 @@ no-phrase Range n = refl
 no-phrase Everything n = refl
 no-phrase PhraseTerm n = refl
 
-phrase-word : (word : ℕ) → phrase_kind (kind_of word) ≡ eqb word 2
+phrase-word : (word : ℕ) → phrase_kind (node_kind word) ≡ eqb word 2
 phrase-word word =
     ⊎_elim
-    (λ h. ap (λ (w : ℕ). phrase_kind (kind_of w)) h.1 ∙ sym h.0)
-    (λ h. no-phrase (kind_of word) (λ e. h.1 (word-of word Phrase e (λ n. eqb-false 2 0 refl (ap kind_word n)))) ∙ sym h.0)
+    (λ h. ap (λ (w : ℕ). phrase_kind (node_kind w)) h.1 ∙ sym h.0)
+    (λ h. no-phrase (node_kind word) (λ e. h.1 (word-of word Phrase e (λ n. eqb-false 2 0 refl (ap kind_word n)))) ∙ sym h.0)
     (eqb_tells word 2)
 
 same-test : (last x : Bool) → cond last x (not x) ≡ true → x ≡ last
@@ -36,7 +36,7 @@ other-test false true e = refl
 other-test false false e = absurd (true≢false e)
 
 -- a child that the pass asks, by the word of its kind, and one that it doesn't
-module _ (asks : Asks) (k : NodeKind) (word : ℕ) (t : Bool) (read : k ≡ kind_of word) (e : t ≡ cond (phrases_only asks) (phrase_kind k) (not (phrase_kind k))) where
+module _ (asks : Asks) (k : NodeKind) (word : ℕ) (t : Bool) (read : k ≡ node_kind word) (e : t ≡ cond (phrases_only asks) (phrase_kind k) (not (phrase_kind k))) where
   word-kind : eqb word 2 ≡ phrase_kind k
   word-kind = sym (phrase-word word) ∙ ap phrase_kind (sym read)
 

@@ -4,14 +4,14 @@ use lib.ListN.{get_or-append}
 use Rattle.meaning.specs.Limits.{node_state_words}
 use Rattle.meaning.specs.Lent.{Index}
 use Rattle.bits.specs.Bit.{bit}
-use Rattle.weight.specs.ScorerTree.{Scorer, Scorers, end, more, matches}
-use Rattle.weight.specs.Sound.{Lends, Sound, Sounds, nodes, nodes_of}
-use Rattle.leaf_scorer.specs.Calls.{lent}
-use Rattle.node.specs.Words.{ChildThere}
+use Rattle.tree_weight.specs.ScorerTree.{Scorer, Scorers, end, more, matches}
+use Rattle.tree_weight.specs.Sound.{Lends, Sound, Sounds, nodes, nodes_of}
+use Rattle.scorer_leaf.specs.Calls.{lists}
+use Rattle.tree_node.specs.Words.{ChildThere}
 use Rattle.window_words.specs.Windowed.{nowhere, places_of, Windowed}
 use Rattle.window_words.proofs.Laws.{windowed-long, windowed-size, windowed-kind, kind_of}
 use Rattle.window_words.proofs.Parts.{Part, Each, Zip, View, zip-none, view, word-at, word-first, part}
-use Rattle.window_leaf.specs.Asks.{NodeWindowed, NodeAnswers, BitsPre, TermPost}
+use Rattle.window_leaf.specs.Asks.{NodeWindowed, NodeAnswers, BitsPre, TermBitsPost}
 use Rattle.window_leaf.proofs.Nodes.{wanted-answers, wanted-windowed}
 use Rattle.window_bits.specs.Parts.{Called}
 
@@ -56,7 +56,7 @@ module _ {ix : Index} {R : List ℕ} {k base places : ℕ} {P Q : Part} (low : L
     pub child-facts : ChildThere kids at
     child-facts = record { long = omega (arith, long, size-read); fits = omega (arith, size-read, v.fits) }
 
-    pub child-held : (postings positions : List ℕ) (n : ℕ) → Lends ix n postings positions → (kind : ℕ) → Fresh ix R k base kind P → (e : ℕ) → e ≡ at + get_or kids (at + 1) 0 → kind ≡ get_or kids at 0 → NodeWindowed (lent n postings positions R) ix places s k (cond f 1 0) (take (e - at) (drop at kids)) base
+    pub child-held : (postings positions : List ℕ) (n : ℕ) → Lends ix n postings positions → (kind : ℕ) → Fresh ix R k base kind P → (e : ℕ) → e ≡ at + get_or kids (at + 1) 0 → kind ≡ get_or kids at 0 → NodeWindowed (lists n postings positions R) ix places s k (cond f 1 0) (take (e - at) (drop at kids)) base
     child-held postings positions n h kind fresh e i j =
         record { lends = h; sound = v.part-is.0.sound; few = omega (arith, v.part-is.0.few); held = subst (λ (y : List ℕ). Windowed ix R s k (cond f 1 0) y base base nowhere) (sym (part v e (stop-is e i))) (fresh.fresh f s v.y (kind-read ∙ sym j) v.part-is.1) }
 
@@ -64,23 +64,23 @@ module _ {ix : Index} {R : List ℕ} {k base places : ℕ} {P Q : Part} (low : L
   child-there end q l = absurd (omega (arith, zip-none q, l))
   child-there (more f s g) q l = child-facts (view q)
 
-  pub child-node : (postings positions : List ℕ) (n : ℕ) → Lends ix n postings positions → (kind : ℕ) → Fresh ix R k base kind P → (g : Scorers) → Zip (AndKnown ix places P) Q ss g kids at → at < length kids → (e : ℕ) → e ≡ at + get_or kids (at + 1) 0 → kind ≡ get_or kids at 0 → (s : Scorer) × (scores : ℕ) × NodeWindowed (lent n postings positions R) ix places s k scores (take (e - at) (drop at kids)) base
+  pub child-node : (postings positions : List ℕ) (n : ℕ) → Lends ix n postings positions → (kind : ℕ) → Fresh ix R k base kind P → (g : Scorers) → Zip (AndKnown ix places P) Q ss g kids at → at < length kids → (e : ℕ) → e ≡ at + get_or kids (at + 1) 0 → kind ≡ get_or kids at 0 → (s : Scorer) × (scores : ℕ) × NodeWindowed (lists n postings positions R) ix places s k scores (take (e - at) (drop at kids)) base
   child-node postings positions n h kind fresh end q l e i j = absurd (omega (arith, zip-none q, l))
   child-node postings positions n h kind fresh (more f s g) q l e i j = (s, cond f 1 0, child-held (view q) postings positions n h kind fresh e i j)
 
 -- ---- what a call asks
-pub bits-pre : {n places a b base want : ℕ} (postings positions ranges : List ℕ) → Called (lent n postings positions ranges) places a b base want → (a' b' w : ℕ) → a' ≡ a → b' ≡ b → ((p : ℕ) → p < 64 → bit p w ≡ true → bit p want ≡ true) → (ix : Index) (q : List ℕ) (depth : ℕ) → (s : Scorer) × (scores : ℕ) × NodeWindowed (lent n postings positions ranges) ix places s depth scores q base → BitsPre (lent n postings positions ranges) a' b' q base w depth
-bits-pre {n} {places} {a} {b} {base} {want} postings positions ranges c a' b' w e f within ix q depth h =
-    (c.small, (n, ix, places, h.0, h.1, λ p l t. c.wanted p l (within p l t), record { in-a = omega (arith, c.room.in-a, e); in_b = omega (arith, c.room.in_b, f) }, h.2))
+pub bits-pre : {n places starts other_starts base want : ℕ} (postings positions ranges : List ℕ) → Called (lists n postings positions ranges) places starts other_starts base want → (starts' other_starts' w : ℕ) → starts' ≡ starts → other_starts' ≡ other_starts → ((p : ℕ) → p < 64 → bit p w ≡ true → bit p want ≡ true) → (ix : Index) (q : List ℕ) (depth : ℕ) → (s : Scorer) × (scores : ℕ) × NodeWindowed (lists n postings positions ranges) ix places s depth scores q base → BitsPre (lists n postings positions ranges) starts' other_starts' q base w depth
+bits-pre {n} {places} {starts} {other_starts} {base} {want} postings positions ranges c starts' other_starts' w e f within ix q depth h =
+    (c.small, (n, ix, places, h.0, h.1, λ p l t. c.wanted p l (within p l t), record { in-starts = omega (arith, c.room.in-starts, e); in-other = omega (arith, c.room.in-other, f) }, h.2))
 
-module _ {ix : Index} {R : List ℕ} {k base places : ℕ} {P Q : Part} (low : Low ix R k base P) {ss : Scorers} {kids : List ℕ} {at : ℕ} (postings positions : List ℕ) (n : ℕ) {a b want : ℕ} (called : Called (lent n postings positions R) places a b base want) (lends : Lends ix n postings positions) (kind : ℕ) (fresh : Fresh ix R k base kind P) (g : Scorers) (zip : Zip (AndKnown ix places P) Q ss g kids at) (l : at < length kids) (e : ℕ) (i : e ≡ at + get_or kids (at + 1) 0) (j : kind ≡ get_or kids at 0) where
-  pub ask-node : (a' b' w : ℕ) → a' ≡ a → b' ≡ b → ((p : ℕ) → p < 64 → bit p w ≡ true → bit p want ≡ true) → BitsPre (lent n postings positions R) a' b' (take (e - at) (drop at kids)) base w k
-  ask-node a' b' w f h within = bits-pre postings positions R called a' b' w f h within ix (take (e - at) (drop at kids)) k (child-node low postings positions n lends kind fresh g zip l e i j)
+module _ {ix : Index} {R : List ℕ} {k base places : ℕ} {P Q : Part} (low : Low ix R k base P) {ss : Scorers} {kids : List ℕ} {at : ℕ} (postings positions : List ℕ) (n : ℕ) {starts other_starts want : ℕ} (called : Called (lists n postings positions R) places starts other_starts base want) (lends : Lends ix n postings positions) (kind : ℕ) (fresh : Fresh ix R k base kind P) (g : Scorers) (zip : Zip (AndKnown ix places P) Q ss g kids at) (l : at < length kids) (e : ℕ) (i : e ≡ at + get_or kids (at + 1) 0) (j : kind ≡ get_or kids at 0) where
+  pub ask-node : (starts' other_starts' w : ℕ) → starts' ≡ starts → other_starts' ≡ other_starts → ((p : ℕ) → p < 64 → bit p w ≡ true → bit p want ≡ true) → BitsPre (lists n postings positions R) starts' other_starts' (take (e - at) (drop at kids)) base w k
+  ask-node starts' other_starts' w f h within = bits-pre postings positions R called starts' other_starts' w f h within ix (take (e - at) (drop at kids)) k (child-node low postings positions n lends kind fresh g zip l e i j)
 
 -- ---- what a call answers: a term's answer, cut to what is wanted
-pub term-answers : (w : ℕ) (ys : List ℕ) {n : ℕ} {postings positions ranges q : List ℕ} {base depth t r : ℕ} → ((p : ℕ) → bit p r ≡ bit p w && bit p t) → TermPost postings q base t ys → NodeAnswers (lent n postings positions ranges) q base (places_of w) depth r ys
+pub term-answers : (w : ℕ) (ys : List ℕ) {n : ℕ} {postings positions ranges q : List ℕ} {base depth t r : ℕ} → ((p : ℕ) → bit p r ≡ bit p w && bit p t) → TermBitsPost postings q base t ys → NodeAnswers (lists n postings positions ranges) q base (places_of w) depth r ys
 term-answers w ys {n} {postings} {positions} {ranges} {q} {base} {depth} {t} {r} e post ix places s scores h =
-    let a = post (lent n postings positions ranges) depth refl ix places s scores h in
+    let a = post (lists n postings positions ranges) depth refl ix places s scores h in
     (wanted-answers (matches ix s) base w t _ r a.0 e, wanted-windowed ix ranges s depth scores ys (base + 64) base w a.1)
 
 -- ---- words of a part that was put back

@@ -1,4 +1,4 @@
--- The laws of the cycle.
+-- A Boolean's children, asked for a window: each loop over them, the calls one after the other, and the node.
 pub mod ByKind
 pub mod Matching
 pub mod Children

@@ -3,8 +3,8 @@ use Rattle.std.proofs.Common.{◌≡◌, refl, sym, ap, ◌∙◌, Bool, true, f
 use Rattle.std.proofs.lemmas.Bool.{lt-leb, cases_lt}
 use mathlib.Core.Bool.{and-false}
 use Rattle.meaning.specs.Lent.{Index}
-use Rattle.weight.specs.ScorerTree.{nothing, term, phrase, range, everything, Scorer, leaf, boolean, Scorers, end, more, matches, all_match, any_matches, matching}
-use Rattle.weight.specs.Sound.{nodes, nodes_of}
+use Rattle.tree_weight.specs.ScorerTree.{nothing, term, phrase, range, everything, Scorer, leaf, boolean, Scorers, end, more, matches, all_match, any_matches, matching}
+use Rattle.tree_weight.specs.Sound.{nodes, nodes_of}
 use Rattle.window_words.proofs.Laws.{kind_of}
 use Rattle.window_bits.specs.Parts.{is_phrase, asked_by, all_of}
 

@@ -6,55 +6,47 @@ use Rattle.meaning.specs.Limits.{node_state_words}
 use Rattle.meaning.specs.Lent.{Index}
 use Rattle.bits.specs.Bit.{bit}
 use Rattle.bits.proofs.Laws.{halves-joined}
-use Rattle.weight.specs.ScorerTree.{Leaf, nothing, term, phrase, range, everything, Scoring, Joining, one_more, afterwards, Scorer, leaf, boolean, Scorers, matches}
-use Rattle.weight.specs.State.{State, words_of}
-use Rattle.weight.specs.Held.{KeptIs, JoiningIs, BooleanIs}
-use Rattle.weight.specs.Sound.{Sound, nodes}
-use Rattle.leaf_scorer.specs.Calls.{lent}
+use Rattle.tree_weight.specs.ScorerTree.{Leaf, Scoring, Joining, one_more, afterwards, Scorer, leaf, boolean, Scorers, matches}
+use Rattle.tree_weight.specs.State.{State, words_of}
+use Rattle.tree_weight.specs.Held.{KeptIs, JoiningIs, BooleanIs}
+use Rattle.tree_weight.specs.Sound.{Sound, nodes}
+use Rattle.scorer_leaf.specs.Calls.{lists}
 use Rattle.window_words.specs.Windowed.{Places, nowhere, places_of, optional_bound, Stored, required_places, optional_places, Windowed, AllWindowed}
-use Rattle.window_words.proofs.Laws.{all-less, windowed-long, windowed-kind, kind_of}
+use Rattle.window_words.proofs.Laws.{all-less, windowed-long, windowed-kind, leaf-no-boolean}
 use Rattle.window_leaf.specs.Asks.{Answers, Wanted, NodeWindowed}
-use Rattle.window_leaf.specs.Runs.{answered, PutPre, PutPost}
-use Rattle.window_bits.specs.Parts.{Called, BooleanKnown, BooleanWindowed, BooleanPre, BooleanPost, takes}
+use Rattle.window_leaf.specs.Runs.{run_answered, PutPre, PutPost}
+use Rattle.window_bits.specs.Parts.{Called, BooleanKnown, BooleanWindowed, BooleanBitsPre, BooleanBitsPost, parts_take}
 
 -- ---- a record and what stands behind it
-module _ (S : State) (w st : List ℕ) (is : st ≡ words_of S ++ w) where
-  behind : drop 32 st ≡ w
+module _ (S : State) (w states : List ℕ) (is : states ≡ words_of S ++ w) where
+  behind : drop 32 states ≡ w
   behind = rw is refl
 
-  many : length st ≡ 32 + length w
+  many : length states ≡ 32 + length w
   many = rw is (omega arith)
 
-  pub behind-part : take (length st - 32) (drop 32 st) ≡ w
-  behind-part = let h : length w ≡ length st - 32 = omega (arith, many) in ap (take (length st - 32)) (behind ∙ sym (append-nil w)) ∙ take_at w [] (length st - 32) h
+  pub behind-part : take (length states - 32) (drop 32 states) ≡ w
+  behind-part = let h : length w ≡ length states - 32 = omega (arith, many) in ap (take (length states - 32)) (behind ∙ sym (append-nil w)) ∙ take_at w [] (length states - 32) h
 
-  pub put-behind : (w' : List ℕ) → take 32 st ++ (w' ++ drop (length st - 32) (drop 32 st)) ≡ words_of S ++ w'
+  pub put-behind : (w' : List ℕ) → take 32 states ++ (w' ++ drop (length states - 32) (drop 32 states)) ≡ words_of S ++ w'
   put-behind w' =
-      let h : length w ≡ length st - 32 = omega (arith, many) in
-      let f : take 32 st ≡ words_of S = rw is refl in
-      let d : drop (length st - 32) (drop 32 st) ≡ [] = ap (drop (length st - 32)) (behind ∙ sym (append-nil w)) ∙ drop_at w [] (length st - 32) h in
+      let h : length w ≡ length states - 32 = omega (arith, many) in
+      let f : take 32 states ≡ words_of S = rw is refl in
+      let d : drop (length states - 32) (drop 32 states) ≡ [] = ap (drop (length states - 32)) (behind ∙ sym (append-nil w)) ∙ drop_at w [] (length states - 32) h in
       ap₂ (λ (p q : List ℕ). p ++ (w' ++ q)) f d ∙ ap (λ (q : List ℕ). words_of S ++ q) (append-nil w')
 
 -- ---- the record with an answer in it
-kept-answered : (c : Option Float) (S : State) (bits next : ℕ) → KeptIs c S → KeptIs c (answered S bits next)
+kept-answered : (c : Option Float) (S : State) (bits next : ℕ) → KeptIs c S → KeptIs c (run_answered S bits next)
 unfolding KeptIs
 kept-answered none S bits next h = h
 kept-answered (some x) S bits next h = h
 
-joining-answered : (j : Joining) (rs : Scorers) (S : State) (bits next : ℕ) → JoiningIs j rs S → JoiningIs j rs (answered S bits next)
+joining-answered : (j : Joining) (rs : Scorers) (S : State) (bits next : ℕ) → JoiningIs j rs S → JoiningIs j rs (run_answered S bits next)
 unfolding JoiningIs
 joining-answered (one_more n) rs S bits next h = h
 joining-answered afterwards rs S bits next h = h
 
-no-leaf : (l : Leaf) (sc : Scoring) → kind_of (leaf l sc) ≡ 3 → ⊥
-unfolding kind_of
-no-leaf nothing sc e = omega (arith, e)
-no-leaf (term l) sc e = omega (arith, e)
-no-leaf (phrase f ts) sc e = omega (arith, e)
-no-leaf (range r) sc e = omega (arith, e)
-no-leaf everything sc e = omega (arith, e)
-
-boolean-answered : (c : Option Float) (j : Joining) (need : ℕ) (rs os ps : Scorers) (S : State) (bits next : ℕ) → BooleanIs c j need rs os ps S → BooleanIs c j need rs os ps (answered S bits next)
+boolean-answered : (c : Option Float) (j : Joining) (need : ℕ) (rs os ps : Scorers) (S : State) (bits next : ℕ) → BooleanIs c j need rs os ps S → BooleanIs c j need rs os ps (run_answered S bits next)
 boolean-answered c j need rs os ps S bits next h =
     record { kind-is = h.kind-is; size_is = h.size_is; need-is = h.need-is; required-end = h.required-end; optional-end = h.optional-end; kept = kept-answered c S bits next h.kept; joining = joining-answered j rs S bits next h.joining }
 
@@ -83,11 +75,11 @@ module _ (ix : Index) (R : List ℕ) (c : Option Float) (j : Joining) (need : �
   unfolding Windowed
   of-held h = (h.S, h.x, h.v, h.z, h.is, h.scores-is, h.deep, h.boolean-is, h.cached-is, h.stored, h.required, h.optional, h.prohibited)
 
-takes-is : (ix : Index) (c : Option Float) (j : Joining) (need : ℕ) (rs os ps : Scorers) (d : ℕ) → takes ix rs os ps need d ≡ matches ix (boolean c j need rs os ps) d
+takes-is : (ix : Index) (c : Option Float) (j : Joining) (need : ℕ) (rs os ps : Scorers) (d : ℕ) → parts_take ix rs os ps need d ≡ matches ix (boolean c j need rs os ps) d
 unfolding matches
 takes-is ix c j need rs os ps d = refl
 
-known-of : {n : ℕ} {postings positions R : List ℕ} {ix : Index} {places depth scores : ℕ} {st : List ℕ} {base : ℕ} (c : Option Float) (j : Joining) (need : ℕ) (rs os ps : Scorers) → NodeWindowed (lent n postings positions R) ix places (boolean c j need rs os ps) depth scores st base → BooleanKnown (lent n postings positions R) ix places rs os ps
+known-of : {n : ℕ} {postings positions R : List ℕ} {ix : Index} {places depth scores : ℕ} {states : List ℕ} {base : ℕ} (c : Option Float) (j : Joining) (need : ℕ) (rs os ps : Scorers) → NodeWindowed (lists n postings positions R) ix places (boolean c j need rs os ps) depth scores states base → BooleanKnown (lists n postings positions R) ix places rs os ps
 unfolding Sound nodes
 known-of c j need rs os ps m =
     record {
@@ -97,41 +89,41 @@ known-of c j need rs os ps m =
     }
 
 -- ---- the node
-module _ {n : ℕ} {postings positions R : List ℕ} {ix : Index} {places depth scores : ℕ} {st : List ℕ} {base : ℕ} where
-  pub node-long : (s : Scorer) → NodeWindowed (lent n postings positions R) ix places s depth scores st base → node_state_words ≤ length st
-  node-long s m = windowed-long ix R s depth scores st base base nowhere m.held
+module _ {n : ℕ} {postings positions R : List ℕ} {ix : Index} {places depth scores : ℕ} {states : List ℕ} {base : ℕ} where
+  pub node-long : (s : Scorer) → NodeWindowed (lists n postings positions R) ix places s depth scores states base → node_state_words ≤ length states
+  node-long s m = windowed-long ix R s depth scores states base base nowhere m.held
 
-  leaf-not : (l : Leaf) (sc : Scoring) → NodeWindowed (lent n postings positions R) ix places (leaf l sc) depth scores st base → get_or st 0 0 ≡ 3 → ⊥
-  leaf-not l sc m e = no-leaf l sc (sym (windowed-kind ix R (leaf l sc) depth scores st base base nowhere m.held) ∙ e)
+  leaf-not : (l : Leaf) (sc : Scoring) → NodeWindowed (lists n postings positions R) ix places (leaf l sc) depth scores states base → get_or states 0 0 ≡ 3 → ⊥
+  leaf-not l sc m e = leaf-no-boolean l sc (sym (windowed-kind ix R (leaf l sc) depth scores states base base nowhere m.held) ∙ e)
 
-  pub node-deep : (s : Scorer) → NodeWindowed (lent n postings positions R) ix places s depth scores st base → get_or st 0 0 ≡ 3 → 1 ≤ depth
+  pub node-deep : (s : Scorer) → NodeWindowed (lists n postings positions R) ix places s depth scores states base → get_or states 0 0 ≡ 3 → 1 ≤ depth
   node-deep (leaf l sc) m e = absurd (leaf-not l sc m e)
-  node-deep (boolean c j need rs os ps) m e = (held-of ix R c j need rs os ps depth scores st base base nowhere m.held).deep
+  node-deep (boolean c j need rs os ps) m e = (held-of ix R c j need rs os ps depth scores states base base nowhere m.held).deep
 
-  pub node-put : (s : Scorer) → NodeWindowed (lent n postings positions R) ix places s depth scores st base → get_or st 0 0 ≡ 3 → (w : List ℕ) → PutPre (take 32 st ++ (w ++ drop (length st - 32) (drop 32 st)))
+  pub node-put : (s : Scorer) → NodeWindowed (lists n postings positions R) ix places s depth scores states base → get_or states 0 0 ≡ 3 → (w : List ℕ) → PutPre (take 32 states ++ (w ++ drop (length states - 32) (drop 32 states)))
   node-put (leaf l sc) m e w = absurd (leaf-not l sc m e)
   node-put (boolean c j need rs os ps) m e w =
-      let h = held-of ix R c j need rs os ps depth scores st base base nowhere m.held in
-      (h.S, w, put-behind h.S (h.x ++ (h.v ++ h.z)) st h.is w)
+      let h = held-of ix R c j need rs os ps depth scores states base base nowhere m.held in
+      (h.S, w, put-behind h.S (h.x ++ (h.v ++ h.z)) states h.is w)
 
-  module _ (need' r o : ℕ) (need-read : need' ≡ get_or st 3 0) (required-read : r ≡ get_or st 4 0) (optional-read : o ≡ get_or st 5 0) (c : Option Float) (j : Joining) (need : ℕ) (rs os ps : Scorers) (m : NodeWindowed (lent n postings positions R) ix places (boolean c j need rs os ps) depth scores st base) where
-    h : Held ix R c j need rs os ps depth scores st base base nowhere
-    h = held-of ix R c j need rs os ps depth scores st base base nowhere m.held
+  module _ (need' r o : ℕ) (need-read : need' ≡ get_or states 3 0) (required-read : r ≡ get_or states 4 0) (optional-read : o ≡ get_or states 5 0) (c : Option Float) (j : Joining) (need : ℕ) (rs os ps : Scorers) (m : NodeWindowed (lists n postings positions R) ix places (boolean c j need rs os ps) depth scores states base) where
+    h : Held ix R c j need rs os ps depth scores states base base nowhere
+    h = held-of ix R c j need rs os ps depth scores states base base nowhere m.held
 
-    word : (i : ℕ) → get_or st i 0 ≡ get_or (words_of h.S ++ (h.x ++ (h.v ++ h.z))) i 0
+    word : (i : ℕ) → get_or states i 0 ≡ get_or (words_of h.S ++ (h.x ++ (h.v ++ h.z))) i 0
     word i = ap (λ (q : List ℕ). get_or q i 0) h.is
 
     need-same : need' ≡ need
     need-same = need-read ∙ word 3 ∙ h.boolean-is.need-is
 
-    parts : BooleanWindowed ix R rs os ps (depth - 1) r o need' (take (length st - 32) (drop 32 st)) base base nowhere
+    parts : BooleanWindowed ix R rs os ps (depth - 1) r o need' (take (length states - 32) (drop 32 states)) base base nowhere
     parts =
-        subst (λ (q : ℕ). BooleanWindowed ix R rs os ps (depth - 1) r o q (take (length st - 32) (drop 32 st)) base base nowhere) (sym need-same)
+        subst (λ (q : ℕ). BooleanWindowed ix R rs os ps (depth - 1) r o q (take (length states - 32) (drop 32 states)) base base nowhere) (sym need-same)
         (record {
           x = h.x;
           v = h.v;
           z = h.z;
-          is = behind-part h.S (h.x ++ (h.v ++ h.z)) st h.is;
+          is = behind-part h.S (h.x ++ (h.v ++ h.z)) states h.is;
           required-end = required-read ∙ word 4 ∙ h.boolean-is.required-end;
           optional-end = optional-read ∙ word 5 ∙ h.boolean-is.optional-end;
           required = h.required;
@@ -139,13 +131,13 @@ module _ {n : ℕ} {postings positions R : List ℕ} {ix : Index} {places depth 
           prohibited = h.prohibited;
         })
 
-    module _ (a b want : ℕ) (wanted : Wanted n base want) where
-      module _ (bits next : ℕ) (w st' : List ℕ) (post : BooleanPost (lent n postings positions R) a b (take (length st - 32) (drop 32 st)) r o need' base want (depth - 1) bits next w) (put : PutPost (take 32 st ++ (w ++ drop (length st - 32) (drop 32 st))) bits next st') where
-        done : Answers (takes ix rs os ps need) base (places_of want) bits next × BooleanWindowed ix R rs os ps (depth - 1) r o need w (base + 64) base (places_of bits)
-        done = subst (λ (q : ℕ). Answers (takes ix rs os ps q) base (places_of want) bits next × BooleanWindowed ix R rs os ps (depth - 1) r o q w (base + 64) base (places_of bits)) need-same (post n ix places rs os ps wanted (known-of c j need rs os ps m) parts)
+    module _ (starts other_starts want : ℕ) (wanted : Wanted n base want) where
+      module _ (bits next : ℕ) (w states' : List ℕ) (post : BooleanBitsPost (lists n postings positions R) starts other_starts (take (length states - 32) (drop 32 states)) r o need' base want (depth - 1) bits next w) (put : PutPost (take 32 states ++ (w ++ drop (length states - 32) (drop 32 states))) bits next states') where
+        done : Answers (parts_take ix rs os ps need) base (places_of want) bits next × BooleanWindowed ix R rs os ps (depth - 1) r o need w (base + 64) base (places_of bits)
+        done = subst (λ (q : ℕ). Answers (parts_take ix rs os ps q) base (places_of want) bits next × BooleanWindowed ix R rs os ps (depth - 1) r o q w (base + 64) base (places_of bits)) need-same (post n ix places rs os ps wanted (known-of c j need rs os ps m) parts)
 
-        written : st' ≡ words_of (answered h.S bits next) ++ w
-        written = put h.S w (put-behind h.S (h.x ++ (h.v ++ h.z)) st h.is w)
+        written : states' ≡ words_of (run_answered h.S bits next) ++ w
+        written = put h.S w (put-behind h.S (h.x ++ (h.v ++ h.z)) states h.is w)
 
         abbrev B : Scorer
         B = boolean c j need rs os ps
@@ -153,21 +145,21 @@ module _ {n : ℕ} {postings positions R : List ℕ} {ix : Index} {places depth 
         bits-are : (p : ℕ) → p < 64 → bit p bits ≡ (bit p want && matches ix B (base + p))
         bits-are p l = done.0.bits p l ∙ ap (λ (t : Bool). bit p want && t) (takes-is ix c j need rs os ps (base + p))
 
-        next-is : get_or st' 22 0 ≡ next
+        next-is : get_or states' 22 0 ≡ next
         next-is = ap (λ (q : List ℕ). get_or q 22 0) written
 
-        answers : Answers (matches ix B) base (places_of want) bits (get_or st' 22 0)
+        answers : Answers (matches ix B) base (places_of want) bits (get_or states' 22 0)
         answers = record { bits = bits-are; gap = λ d u t. sym (takes-is ix c j need rs os ps d) ∙ done.0.gap d u (omega (arith, next-is, t)); top = omega (arith, next-is, done.0.top) }
 
-        held-after : Held ix R c j need rs os ps depth scores st' (base + 64) base (places_of want)
+        held-after : Held ix R c j need rs os ps depth scores states' (base + 64) base (places_of want)
         held-after =
             let q = done.1 in
             record {
-              S = answered h.S bits next;
+              S = run_answered h.S bits next;
               x = q.x;
               v = q.v;
               z = q.z;
-              is = written ∙ ap (λ (l : List ℕ). words_of (answered h.S bits next) ++ l) q.is;
+              is = written ∙ ap (λ (l : List ℕ). words_of (run_answered h.S bits next) ++ l) q.is;
               scores-is = h.scores-is;
               deep = h.deep;
               boolean-is = boolean-answered c j need rs os ps h.S bits next h.boolean-is;
@@ -178,14 +170,14 @@ module _ {n : ℕ} {postings positions R : List ℕ} {ix : Index} {places depth 
               prohibited = q.prohibited;
             }
 
-        boolean-after : Answers (matches ix B) base (places_of want) bits (get_or st' 22 0) × Windowed ix R B depth scores st' (base + 64) base (places_of want)
-        boolean-after = (answers, of-held ix R c j need rs os ps depth scores st' (base + 64) base (places_of want) held-after)
+        boolean-after : Answers (matches ix B) base (places_of want) bits (get_or states' 22 0) × Windowed ix R B depth scores states' (base + 64) base (places_of want)
+        boolean-after = (answers, of-held ix R c j need rs os ps depth scores states' (base + 64) base (places_of want) held-after)
 
-  module _ {need' r o : ℕ} (need-read : need' ≡ get_or st 3 0) (required-read : r ≡ get_or st 4 0) (optional-read : o ≡ get_or st 5 0) where
-    pub node-pre : {a b want : ℕ} → Called (lent n postings positions R) places a b base want → (s : Scorer) → NodeWindowed (lent n postings positions R) ix places s depth scores st base → get_or st 0 0 ≡ 3 → BooleanPre (lent n postings positions R) a b (take (length st - 32) (drop 32 st)) r o need' base want (depth - 1)
+  module _ {need' r o : ℕ} (need-read : need' ≡ get_or states 3 0) (required-read : r ≡ get_or states 4 0) (optional-read : o ≡ get_or states 5 0) where
+    pub node-pre : {starts other_starts want : ℕ} → Called (lists n postings positions R) places starts other_starts base want → (s : Scorer) → NodeWindowed (lists n postings positions R) ix places s depth scores states base → get_or states 0 0 ≡ 3 → BooleanBitsPre (lists n postings positions R) starts other_starts (take (length states - 32) (drop 32 states)) r o need' base want (depth - 1)
     node-pre called (leaf l sc) m e = absurd (leaf-not l sc m e)
     node-pre called (boolean c j need rs os ps) m e = (n, ix, places, rs, os, ps, called, known-of c j need rs os ps m, parts need' r o need-read required-read optional-read c j need rs os ps m)
 
-    pub node-after : (a b want : ℕ) → Wanted n base want → (s : Scorer) → NodeWindowed (lent n postings positions R) ix places s depth scores st base → get_or st 0 0 ≡ 3 → (bits next : ℕ) (w st' : List ℕ) → BooleanPost (lent n postings positions R) a b (take (length st - 32) (drop 32 st)) r o need' base want (depth - 1) bits next w → PutPost (take 32 st ++ (w ++ drop (length st - 32) (drop 32 st))) bits next st' → Answers (matches ix s) base (places_of want) bits (get_or st' 22 0) × Windowed ix R s depth scores st' (base + 64) base (places_of want)
-    node-after a b want wanted (leaf l sc) m e bits next w st' post put = absurd (leaf-not l sc m e)
-    node-after a b want wanted (boolean c j need rs os ps) m e bits next w st' post put = boolean-after need' r o need-read required-read optional-read c j need rs os ps m a b want wanted bits next w st' post put
+    pub node-after : (starts other_starts want : ℕ) → Wanted n base want → (s : Scorer) → NodeWindowed (lists n postings positions R) ix places s depth scores states base → get_or states 0 0 ≡ 3 → (bits next : ℕ) (w states' : List ℕ) → BooleanBitsPost (lists n postings positions R) starts other_starts (take (length states - 32) (drop 32 states)) r o need' base want (depth - 1) bits next w → PutPost (take 32 states ++ (w ++ drop (length states - 32) (drop 32 states))) bits next states' → Answers (matches ix s) base (places_of want) bits (get_or states' 22 0) × Windowed ix R s depth scores states' (base + 64) base (places_of want)
+    node-after starts other_starts want wanted (leaf l sc) m e bits next w states' post put = absurd (leaf-not l sc m e)
+    node-after starts other_starts want wanted (boolean c j need rs os ps) m e bits next w states' post put = boolean-after need' r o need-read required-read optional-read c j need rs os ps m starts other_starts want wanted bits next w states' post put

@@ -6,14 +6,14 @@ use Rattle.meaning.specs.Limits.{no_more_docs}
 use Rattle.meaning.specs.Lent.{Index}
 use Rattle.bits.specs.Bit.{bit}
 use Rattle.bits.proofs.Laws.{bit-zero}
-use Rattle.planes.specs.Counts.{one, count}
-use Rattle.planes.proofs.Planes.{nothing-carried}
-use Rattle.weight.specs.ScorerTree.{Scorers, end, more, matches, any_matches, matching}
-use Rattle.weight.specs.Sound.{Lends, Sounds, nodes_of}
-use Rattle.leaf_scorer.specs.declared.PhraseBuffers.{PhraseBuffers}
-use Rattle.leaf_scorer.specs.Calls.{lent}
-use Rattle.leaf_scorer.specs.Buffers.{room, other_room, SameBuffers}
-use Rattle.node.specs.Words.{ChildThere}
+use Rattle.window_planes.specs.Counts.{as_digit, count}
+use Rattle.window_planes.proofs.Planes.{nothing-carried}
+use Rattle.tree_weight.specs.ScorerTree.{Scorers, end, more, matches, any_matches, matching}
+use Rattle.tree_weight.specs.Sound.{Lends, Sounds, nodes_of}
+use Rattle.scorer_leaf.specs.declared.PhraseBuffers.{PhraseBuffers}
+use Rattle.scorer_leaf.specs.Calls.{lists}
+use Rattle.scorer_leaf.specs.Buffers.{room, other_room, SameBuffers}
+use Rattle.tree_node.specs.Words.{ChildThere}
 use Rattle.window_words.specs.Windowed.{Places, nowhere, places_of, optional_bound, AllWindowed}
 use Rattle.window_words.proofs.Laws.{windowed-mono, all-less, all-mono}
 use Rattle.window_words.proofs.Parts.{Asked, all-each, each-all, Zip, zip-start, zip-none, zip-end, view, zip-next}
@@ -41,8 +41,8 @@ module _ (ix : Index) (R : List ℕ) (k places base : ℕ) (D : Places) (ss g : 
   pub walk_there : ChildThere kids at
   walk_there = child-there (unasked-low ix R k base) g zip l
 
-  module _ (postings positions : List ℕ) (n : ℕ) {a b want : ℕ} (called : Called (lent n postings positions R) places a b base want) (lends : Lends ix n postings positions) (e : ℕ) (i : e ≡ at + get_or kids (at + 1) 0) where
-    pub walk_node : (a' b' w : ℕ) → a' ≡ a → b' ≡ b → ((p : ℕ) → p < 64 → bit p w ≡ true → bit p want ≡ true) → BitsPre (lent n postings positions R) a' b' (take (e - at) (drop at kids)) base w k
+  module _ (postings positions : List ℕ) (n : ℕ) {starts other_starts want : ℕ} (called : Called (lists n postings positions R) places starts other_starts base want) (lends : Lends ix n postings positions) (e : ℕ) (i : e ≡ at + get_or kids (at + 1) 0) where
+    pub walk_node : (starts' other_starts' w : ℕ) → starts' ≡ starts → other_starts' ≡ other_starts → ((p : ℕ) → p < 64 → bit p w ≡ true → bit p want ≡ true) → BitsPre (lists n postings positions R) starts' other_starts' (take (e - at) (drop at kids)) base w k
     walk_node = ask-node (unasked-low ix R k base) postings positions n called lends (get_or kids at 0) (unasked-fresh ix R k base (get_or kids at 0)) g zip l e i refl
 
 -- ---- one that matches
@@ -85,10 +85,10 @@ module _ {ix : Index} {R : List ℕ} {k places base want : ℕ} {ss : Scorers} {
     any-there = walk_there ix R k places base (places_of want) ss q.g kids at q.left.zip l
 
     module _ {postings positions : List ℕ} {n e : ℕ} (lends : Lends ix n postings positions) (i : e ≡ at + get_or kids (at + 1) 0) where
-      pub any-node : {b b' : PhraseBuffers} → Called (lent n postings positions R) places (room b) (other_room b) base want → SameBuffers b b' → BitsPre (lent n postings positions R) (room b') (other_room b') (take (e - at) (drop at kids)) base want k
+      pub any-node : {b b' : PhraseBuffers} → Called (lists n postings positions R) places (room b) (other_room b) base want → SameBuffers b b' → BitsPre (lists n postings positions R) (room b') (other_room b') (take (e - at) (drop at kids)) base want k
       any-node called s = walk_node ix R k places base (places_of want) ss q.g kids at q.left.zip l postings positions n called lends e i _ _ want s.starts_length s.other_starts_length (λ p b t. t)
 
-  module _ {e : ℕ} (i : e ≡ at + get_or kids (at + 1) 0) {postings positions : List ℕ} {n : ℕ} (lends : Lends ix n postings positions) (r : ℕ) (ys : List ℕ) {w' next' : ℕ} (m : length ys ≡ length (take (e - at) (drop at kids))) {kids' : List ℕ} (is' : kids' ≡ take at kids ++ (ys ++ drop (e - at) (drop at kids))) (j : next' ≡ min next (get_or kids' (at + 22) 0)) (o : (p : ℕ) → bit p w' ≡ (bit p w || bit p r)) (ans : NodeAnswers (lent n postings positions R) (take (e - at) (drop at kids)) base (places_of want) k r ys) where
+  module _ {e : ℕ} (i : e ≡ at + get_or kids (at + 1) 0) {postings positions : List ℕ} {n : ℕ} (lends : Lends ix n postings positions) (r : ℕ) (ys : List ℕ) {w' next' : ℕ} (m : length ys ≡ length (take (e - at) (drop at kids))) {kids' : List ℕ} (is' : kids' ≡ take at kids ++ (ys ++ drop (e - at) (drop at kids))) (j : next' ≡ min next (get_or kids' (at + 22) 0)) (o : (p : ℕ) → bit p w' ≡ (bit p w || bit p r)) (ans : NodeAnswers (lists n postings positions R) (take (e - at) (drop at kids)) base (places_of want) k r ys) where
     one-took : (g : Scorers) → AnyLeft ix R k places base want ss kids w next at g → at < length kids → AnyAt ix R k places base want ss (take at kids ++ (ys ++ drop (e - at) (drop at kids))) w' next' e
     unfolding any_matches
     one-took end s l = absurd (omega (arith, zip-none s.zip, l))
@@ -141,9 +141,9 @@ count-start {ix} {R} {k} {places} {base} {want} {ss} {kids} h n q l z =
     }
 
 -- one more is counted: no carry is lost
-counted : (planes planes' : List ℕ) (carry r : ℕ) → length planes' ≡ length planes → ((p : ℕ) → count p (planes' ++ (carry ∷ [])) ≡ one (bit p r) + count p planes) → (p : ℕ) (t : Bool) (z : ℕ) → length planes ≡ 8 → bit p r ≡ t → count p planes + (cond t 1 0 + z) ≤ 255 → count p planes' ≡ cond t 1 0 + count p planes
+counted : (planes planes' : List ℕ) (carry r : ℕ) → length planes' ≡ length planes → ((p : ℕ) → count p (planes' ++ (carry ∷ [])) ≡ as_digit (bit p r) + count p planes) → (p : ℕ) (t : Bool) (z : ℕ) → length planes ≡ 8 → bit p r ≡ t → count p planes + (cond t 1 0 + z) ≤ 255 → count p planes' ≡ cond t 1 0 + count p planes
 counted planes planes' carry r u o p t z long is h =
-    let c : count p (planes' ++ (carry ∷ [])) ≡ cond t 1 0 + count p planes = o p ∙ ap (λ (x : Bool). one x + count p planes) is in
+    let c : count p (planes' ++ (carry ∷ [])) ≡ cond t 1 0 + count p planes = o p ∙ ap (λ (x : Bool). as_digit x + count p planes) is in
     let size : 2 ^ length planes' ≡ 256 = ap (λ (x : ℕ). 2 ^ x) (u ∙ long) in
     nothing-carried p carry planes' (omega (arith, c, size, h)) ∙ c
 
@@ -164,10 +164,10 @@ module _ {ix : Index} {R : List ℕ} {k places base want : ℕ} {ss : Scorers} {
     count-there = walk_there ix R k places base (places_of want) ss q.g kids at q.left.zip l
 
     module _ {postings positions : List ℕ} {n e : ℕ} (lends : Lends ix n postings positions) (i : e ≡ at + get_or kids (at + 1) 0) where
-      pub count-node : {b b' : PhraseBuffers} → Called (lent n postings positions R) places (room b) (other_room b) base want → SameBuffers b b' → BitsPre (lent n postings positions R) (room b') (other_room b') (take (e - at) (drop at kids)) base want k
+      pub count-node : {b b' : PhraseBuffers} → Called (lists n postings positions R) places (room b) (other_room b) base want → SameBuffers b b' → BitsPre (lists n postings positions R) (room b') (other_room b') (take (e - at) (drop at kids)) base want k
       count-node called s = walk_node ix R k places base (places_of want) ss q.g kids at q.left.zip l postings positions n called lends e i _ _ want s.starts_length s.other_starts_length (λ p b t. t)
 
-  module _ (few : nodes_of ss ≤ 255) {e : ℕ} (i : e ≡ at + get_or kids (at + 1) 0) {postings positions : List ℕ} {n : ℕ} (lends : Lends ix n postings positions) (r : ℕ) (ys : List ℕ) (carry : ℕ) {planes' : List ℕ} {next' : ℕ} (m : length ys ≡ length (take (e - at) (drop at kids))) {kids' : List ℕ} (is' : kids' ≡ take at kids ++ (ys ++ drop (e - at) (drop at kids))) (j : next' ≡ min next (get_or kids' (at + 22) 0)) (u : length planes' ≡ length planes) (o : (p : ℕ) → count p (planes' ++ (carry ∷ [])) ≡ one (bit p r) + count p planes) (ans : NodeAnswers (lent n postings positions R) (take (e - at) (drop at kids)) base (places_of want) k r ys) where
+  module _ (few : nodes_of ss ≤ 255) {e : ℕ} (i : e ≡ at + get_or kids (at + 1) 0) {postings positions : List ℕ} {n : ℕ} (lends : Lends ix n postings positions) (r : ℕ) (ys : List ℕ) (carry : ℕ) {planes' : List ℕ} {next' : ℕ} (m : length ys ≡ length (take (e - at) (drop at kids))) {kids' : List ℕ} (is' : kids' ≡ take at kids ++ (ys ++ drop (e - at) (drop at kids))) (j : next' ≡ min next (get_or kids' (at + 22) 0)) (u : length planes' ≡ length planes) (o : (p : ℕ) → count p (planes' ++ (carry ∷ [])) ≡ as_digit (bit p r) + count p planes) (ans : NodeAnswers (lists n postings positions R) (take (e - at) (drop at kids)) base (places_of want) k r ys) where
     next-took : (g : Scorers) → CountLeft ix R k places base want ss kids planes next at g → at < length kids → CountAt ix R k places base want ss (take at kids ++ (ys ++ drop (e - at) (drop at kids))) planes' next' e
     unfolding matching
     next-took end s l = absurd (omega (arith, zip-none s.zip, l))

@@ -6,12 +6,12 @@ use Rattle.meaning.specs.Limits.{no_more_docs}
 use Rattle.meaning.specs.Lent.{Index}
 use Rattle.bits.specs.Bit.{bit}
 use Rattle.bits.proofs.Laws.{bit-zero}
-use Rattle.weight.specs.ScorerTree.{Scorer, Scorers, end, more, matches}
-use Rattle.weight.specs.Sound.{Lends, Sounds, nodes_of}
-use Rattle.leaf_scorer.specs.declared.PhraseBuffers.{PhraseBuffers}
-use Rattle.leaf_scorer.specs.Calls.{lent}
-use Rattle.leaf_scorer.specs.Buffers.{room, other_room, SameBuffers}
-use Rattle.node.specs.Words.{ChildThere}
+use Rattle.tree_weight.specs.ScorerTree.{Scorer, Scorers, end, more, matches}
+use Rattle.tree_weight.specs.Sound.{Lends, Sounds, nodes_of}
+use Rattle.scorer_leaf.specs.declared.PhraseBuffers.{PhraseBuffers}
+use Rattle.scorer_leaf.specs.Calls.{lists}
+use Rattle.scorer_leaf.specs.Buffers.{room, other_room, SameBuffers}
+use Rattle.tree_node.specs.Words.{ChildThere}
 use Rattle.window_words.specs.Windowed.{Places, nowhere, places_of, Windowed, AllWindowed}
 use Rattle.window_words.proofs.Laws.{windowed-less, windowed-mono, kind_of}
 use Rattle.window_words.proofs.Parts.{Part, Each, all-each, each-all, each-map, Zip, zip-start, zip-none, zip-end, zip-stop, zip-front-map, view, zip-next, zip-skip}
@@ -197,7 +197,7 @@ module _ {ix : Index} {R : List ℕ} {k places : ℕ} {last : Bool} {base want :
   module _ {e : ℕ} (i : e ≡ at + get_or kids (at + 1) 0) where
     -- what a call of this pass asks
     module _ {postings positions : List ℕ} {n : ℕ} (lends : Lends ix n postings positions) (q : PassAt ix R k places last base want ss kids w next at skip) (l : at < length kids) (h : eqb (get_or kids at 0) 2 ≡ last) where
-      pub pass-node : {b b' : PhraseBuffers} → Called (lent n postings positions R) places (room b) (other_room b) base want → SameBuffers b b' → (v : ℕ) → ((p : ℕ) → p < 64 → bit p v ≡ true → bit p want ≡ true) → BitsPre (lent n postings positions R) (room b') (other_room b') (take (e - at) (drop at kids)) base v k
+      pub pass-node : {b b' : PhraseBuffers} → Called (lists n postings positions R) places (room b) (other_room b) base want → SameBuffers b b' → (v : ℕ) → ((p : ℕ) → p < 64 → bit p v ≡ true → bit p want ≡ true) → BitsPre (lists n postings positions R) (room b') (other_room b') (take (e - at) (drop at kids)) base v k
       pass-node called s v within = ask-node (some-low ix R k base (asked_before last) (places_of want)) postings positions n called lends (get_or kids at 0) (pass-fresh ix R k base last want (get_or kids at 0) h) q.g q.left.zip l e i refl _ _ v s.starts_length s.other_starts_length within
 
     skipped : (g : Scorers) → PassLeft ix R k places last base want ss kids w next at skip g → at < length kids → eqb (get_or kids at 0) 2 ≡ not last → PassAt ix R k places last base want ss kids w next e true
@@ -226,7 +226,7 @@ module _ {ix : Index} {R : List ℕ} {k places : ℕ} {last : Bool} {base want :
     pub pass-skip : PassAt ix R k places last base want ss kids w next at skip → at < length kids → eqb (get_or kids at 0) 2 ≡ not last → PassAt ix R k places last base want ss kids w next e true
     pass-skip q l h = skipped q.g q.left l h
 
-    module _ {postings positions : List ℕ} {n : ℕ} (lends : Lends ix n postings positions) (r : ℕ) (ys : List ℕ) {next' : ℕ} (m : length ys ≡ length (take (e - at) (drop at kids))) {kids' : List ℕ} (is : kids' ≡ take at kids ++ (ys ++ drop (e - at) (drop at kids))) (j : next' ≡ max next (get_or kids' (at + 22) 0)) (ans : NodeAnswers (lent n postings positions R) (take (e - at) (drop at kids)) base (places_of w) k r ys) where
+    module _ {postings positions : List ℕ} {n : ℕ} (lends : Lends ix n postings positions) (r : ℕ) (ys : List ℕ) {next' : ℕ} (m : length ys ≡ length (take (e - at) (drop at kids))) {kids' : List ℕ} (is : kids' ≡ take at kids ++ (ys ++ drop (e - at) (drop at kids))) (j : next' ≡ max next (get_or kids' (at + 22) 0)) (ans : NodeAnswers (lists n postings positions R) (take (e - at) (drop at kids)) base (places_of w) k r ys) where
       took : (g : Scorers) → PassLeft ix R k places last base want ss kids w next at skip g → at < length kids → eqb (get_or kids at 0) 2 ≡ last → PassAt ix R k places last base want ss (take at kids ++ (ys ++ drop (e - at) (drop at kids))) r next' e skip
       unfolding all_of asks_all
       took end s l h = absurd (omega (arith, zip-none s.zip, l))

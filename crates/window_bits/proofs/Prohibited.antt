@@ -5,12 +5,12 @@ use mathlib.Core.Bool.{and-true}
 use Rattle.meaning.specs.Lent.{Index}
 use Rattle.bits.specs.Bit.{bit}
 use Rattle.bits.proofs.Laws.{bit-zero}
-use Rattle.weight.specs.ScorerTree.{Scorers, end, more, matches, any_matches}
-use Rattle.weight.specs.Sound.{Lends, Sounds, nodes_of}
-use Rattle.leaf_scorer.specs.declared.PhraseBuffers.{PhraseBuffers}
-use Rattle.leaf_scorer.specs.Calls.{lent}
-use Rattle.leaf_scorer.specs.Buffers.{room, other_room, SameBuffers}
-use Rattle.node.specs.Words.{ChildThere}
+use Rattle.tree_weight.specs.ScorerTree.{Scorers, end, more, matches, any_matches}
+use Rattle.tree_weight.specs.Sound.{Lends, Sounds, nodes_of}
+use Rattle.scorer_leaf.specs.declared.PhraseBuffers.{PhraseBuffers}
+use Rattle.scorer_leaf.specs.Calls.{lists}
+use Rattle.scorer_leaf.specs.Buffers.{room, other_room, SameBuffers}
+use Rattle.tree_node.specs.Words.{ChildThere}
 use Rattle.window_words.specs.Windowed.{nowhere, places_of, AllWindowed}
 use Rattle.window_words.proofs.Laws.{windowed-less, windowed-mono}
 use Rattle.window_words.proofs.Parts.{each-all, zip-none, zip-end, zip-stop, view, zip-next}
@@ -59,10 +59,10 @@ module _ {ix : Index} {R : List ℕ} {k places base want : ℕ} {ss : Scorers} {
     excluded-there = walk_there ix R k places base nowhere ss q.g kids at q.left.zip l
 
     module _ {postings positions : List ℕ} {n e : ℕ} (lends : Lends ix n postings positions) (i : e ≡ at + get_or kids (at + 1) 0) where
-      pub excluded-node : {b b' : PhraseBuffers} → Called (lent n postings positions R) places (room b) (other_room b) base want → SameBuffers b b' → BitsPre (lent n postings positions R) (room b') (other_room b') (take (e - at) (drop at kids)) base w k
+      pub excluded-node : {b b' : PhraseBuffers} → Called (lists n postings positions R) places (room b) (other_room b) base want → SameBuffers b b' → BitsPre (lists n postings positions R) (room b') (other_room b') (take (e - at) (drop at kids)) base w k
       excluded-node called s = walk_node ix R k places base nowhere ss q.g kids at q.left.zip l postings positions n called lends e i _ _ w s.starts_length s.other_starts_length q.left.within
 
-  module _ {e : ℕ} (i : e ≡ at + get_or kids (at + 1) 0) {postings positions : List ℕ} {n : ℕ} (lends : Lends ix n postings positions) (r : ℕ) (ys : List ℕ) {w' : ℕ} (m : length ys ≡ length (take (e - at) (drop at kids))) {kids' : List ℕ} (is : kids' ≡ take at kids ++ (ys ++ drop (e - at) (drop at kids))) (o : (p : ℕ) → p < 64 → bit p w' ≡ (bit p w && not (bit p r))) (ans : NodeAnswers (lent n postings positions R) (take (e - at) (drop at kids)) base (places_of w) k r ys) where
+  module _ {e : ℕ} (i : e ≡ at + get_or kids (at + 1) 0) {postings positions : List ℕ} {n : ℕ} (lends : Lends ix n postings positions) (r : ℕ) (ys : List ℕ) {w' : ℕ} (m : length ys ≡ length (take (e - at) (drop at kids))) {kids' : List ℕ} (is : kids' ≡ take at kids ++ (ys ++ drop (e - at) (drop at kids))) (o : (p : ℕ) → p < 64 → bit p w' ≡ (bit p w && not (bit p r))) (ans : NodeAnswers (lists n postings positions R) (take (e - at) (drop at kids)) base (places_of w) k r ys) where
     took : (g : Scorers) → ExcludedLeft ix R k places base want ss kids w at g → at < length kids → ExcludedAt ix R k places base want ss (take at kids ++ (ys ++ drop (e - at) (drop at kids))) w' e
     unfolding any_matches
     took end s l = absurd (omega (arith, zip-none s.zip, l))

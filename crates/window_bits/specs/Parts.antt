@@ -3,12 +3,12 @@ use Rattle.std.specs.Prelude.{◌≡◌, ◌⊎◌, Bool, true, false, not, cond
 use Rattle.meaning.specs.Limits.{no_more_docs}
 use Rattle.meaning.specs.Lent.{Index}
 use Rattle.bits.specs.Bit.{bit}
-use Rattle.weight.specs.ScorerTree.{nothing, term, phrase, range, everything, Scorer, leaf, boolean, Scorers, end, more, matches, all_match, any_matches, matching}
-use Rattle.weight.specs.State.{sizes_of}
-use Rattle.weight.specs.Sound.{Lends, Sounds, nodes_of}
-use Rattle.leaf_scorer.specs.Calls.{Lent, RoomIn}
-use Rattle.node.specs.declared.NodeKind.{NodeKind}
-use Rattle.node.specs.declared.NodeKind.TheVariants.{Nothing, Term, Phrase, Boolean, Range, Everything, PhraseTerm}
+use Rattle.tree_weight.specs.ScorerTree.{nothing, term, phrase, range, everything, Scorer, leaf, boolean, Scorers, end, more, matches, all_match, any_matches, matching}
+use Rattle.tree_weight.specs.State.{sizes_of}
+use Rattle.tree_weight.specs.Sound.{Lends, Sounds, nodes_of}
+use Rattle.scorer_leaf.specs.Calls.{Lists, RoomIn}
+use Rattle.tree_node.specs.declared.NodeKind.{NodeKind}
+use Rattle.tree_node.specs.declared.NodeKind.TheVariants.{Nothing, Term, Phrase, Boolean, Range, Everything, PhraseTerm}
 use Rattle.window_words.specs.Windowed.{Places, nowhere, places_of, optional_bound, Windowed, AllWindowed}
 use Rattle.window_leaf.specs.Asks.{Answers, Wanted, lent_at}
 use Rattle.window_bits.specs.declared.Asks.{Asks}
@@ -65,46 +65,66 @@ Through last ss w = ((p : ℕ) → p < 64 → bit p w ≡ false) ⊎ (asks_all l
 unfoldable pub SomeWindowed : (Scorer → Bool) → Index → List ℕ → Scorers → ℕ → List ℕ → ℕ → Places → Type 0
 SomeWindowed A ix ranges end depth w base D = w ≡ []
 SomeWindowed A ix ranges (more f s ss) depth w base D =
-    (y : List ℕ) × (z : List ℕ) × (w ≡ y ++ z) × Windowed ix ranges s depth (cond f 1 0) y (cond (A s) (base + 64) base) base (λ p. A s && D p) × SomeWindowed A ix ranges ss depth z base D
+    (y : List ℕ) × (z : List ℕ) × (w ≡ y ++ z)
+    × Windowed ix ranges s depth (cond f 1 0) y (cond (A s) (base + 64) base) base (λ p. A s && D p)
+    × SomeWindowed A ix ranges ss depth z base D
 
 -- what is known of some children's index and trees
-pub record PartsKnown (E : Lent) (ix : Index) (places : ℕ) (ss : Scorers) : Type 0 where
+pub record PartsKnown (E : Lists) (ix : Index) (places : ℕ) (ss : Scorers) : Type 0 where
   pub lends : Lends ix E.documents E.postings E.positions
   pub sounds : Sounds ix places ss
   pub few : nodes_of ss ≤ 255
 
 -- what all calls of the cycle ask beside their parts
-pub record Called (E : Lent) (places a b base want : ℕ) : Type 0 where
+pub record Called (E : Lists) (places starts other_starts base want : ℕ) : Type 0 where
   pub small : base + 64 ≤ no_more_docs
   pub wanted : Wanted E.documents base want
-  pub room : RoomIn places a b
+  pub room : RoomIn places starts other_starts
 
-abbrev pub PassPre : Lent → ℕ → ℕ → List ℕ → Bool → ℕ → ℕ → ℕ → Type 0
-PassPre E a b kids last base want depth =
-    (n : ℕ) × (ix : Index) × (places : ℕ) × (ss : Scorers) × Called (lent_at E n) places a b base want × PartsKnown (lent_at E n) ix places ss × SomeWindowed (asked_before last) ix E.ranges ss depth kids base (places_of want)
+abbrev pub RequiredBitsPre : Lists → ℕ → ℕ → List ℕ → Bool → ℕ → ℕ → ℕ → Type 0
+RequiredBitsPre E starts other_starts kids last base want depth =
+    (n : ℕ) × (ix : Index) × (places : ℕ) × (ss : Scorers)
+    × Called (lent_at E n) places starts other_starts base want × PartsKnown (lent_at E n) ix places ss
+    × SomeWindowed (asked_before last) ix E.ranges ss depth kids base (places_of want)
 
-abbrev pub PassPost : Lent → ℕ → ℕ → List ℕ → Bool → ℕ → ℕ → ℕ → ℕ → ℕ → Bool → List ℕ → Type 0
-PassPost E a b kids last base want depth r next skipped kids' =
-    (n : ℕ) (ix : Index) (places : ℕ) (ss : Scorers) → Wanted n base want → PartsKnown (lent_at E n) ix places ss → SomeWindowed (asked_before last) ix E.ranges ss depth kids base (places_of want) → Answers (all_of (asked_by last) ix ss) base (places_of want) r next × SomeWindowed (asked_after last) ix E.ranges ss depth kids' base (places_of r) × (skipped ≡ false → Through last ss r)
+abbrev pub RequiredBitsPost : Lists → ℕ → ℕ → List ℕ → Bool → ℕ → ℕ → ℕ → ℕ → ℕ → Bool → List ℕ → Type 0
+RequiredBitsPost E starts other_starts kids last base want depth r next skipped kids' =
+    (n : ℕ) (ix : Index) (places : ℕ) (ss : Scorers) → Wanted n base want
+    → PartsKnown (lent_at E n) ix places ss
+    → SomeWindowed (asked_before last) ix E.ranges ss depth kids base (places_of want)
+    → Answers (all_of (asked_by last) ix ss) base (places_of want) r next
+    × SomeWindowed (asked_after last) ix E.ranges ss depth kids' base (places_of r)
+    × (skipped ≡ false → Through last ss r)
 
 -- the second pass, which is not made where the first skipped none
-abbrev pub PhrasesPost : Lent → ℕ → ℕ → List ℕ → Bool → ℕ → ℕ → ℕ → ℕ → ℕ → List ℕ → Type 0
-PhrasesPost E a b kids skipped base want depth r next kids' =
-    (n : ℕ) (ix : Index) (places : ℕ) (ss : Scorers) → Wanted n base want → PartsKnown (lent_at E n) ix places ss → SomeWindowed (asked_before true) ix E.ranges ss depth kids base (places_of want) → (skipped ≡ false → Through false ss want) → Answers (all_of (asked_by true) ix ss) base (places_of want) r next × SomeWindowed (asked_after true) ix E.ranges ss depth kids' base (places_of r)
+abbrev pub PhrasesPost : Lists → ℕ → ℕ → List ℕ → Bool → ℕ → ℕ → ℕ → ℕ → ℕ → List ℕ → Type 0
+PhrasesPost E starts other_starts kids skipped base want depth r next kids' =
+    (n : ℕ) (ix : Index) (places : ℕ) (ss : Scorers) → Wanted n base want
+    → PartsKnown (lent_at E n) ix places ss
+    → SomeWindowed (asked_before true) ix E.ranges ss depth kids base (places_of want)
+    → (skipped ≡ false → Through false ss want)
+    → Answers (all_of (asked_by true) ix ss) base (places_of want) r next
+    × SomeWindowed (asked_after true) ix E.ranges ss depth kids' base (places_of r)
 
 -- ---- the optional children, of which `need` must match, and the prohibited
-abbrev pub PartsPre : Lent → ℕ → ℕ → List ℕ → ℕ → ℕ → ℕ → Type 0
-PartsPre E a b kids base want depth =
-    (n : ℕ) × (ix : Index) × (places : ℕ) × (ss : Scorers) × Called (lent_at E n) places a b base want × PartsKnown (lent_at E n) ix places ss × AllWindowed ix E.ranges ss depth kids base base nowhere
+abbrev pub PartsBitsPre : Lists → ℕ → ℕ → List ℕ → ℕ → ℕ → ℕ → Type 0
+PartsBitsPre E starts other_starts kids base want depth =
+    (n : ℕ) × (ix : Index) × (places : ℕ) × (ss : Scorers)
+    × Called (lent_at E n) places starts other_starts base want × PartsKnown (lent_at E n) ix places ss
+    × AllWindowed ix E.ranges ss depth kids base base nowhere
 
 -- so many match
 abbrev pub enough : Index → Scorers → ℕ → ℕ → Bool
 enough ix ss need d = leb need (matching ix ss d)
 
 -- where none is needed nothing is asked
-abbrev pub OptionalPost : Lent → ℕ → ℕ → List ℕ → ℕ → ℕ → ℕ → ℕ → ℕ → ℕ → List ℕ → Type 0
-OptionalPost E a b kids need base want depth r next kids' =
-    (n : ℕ) (ix : Index) (places : ℕ) (ss : Scorers) → Wanted n base want → PartsKnown (lent_at E n) ix places ss → AllWindowed ix E.ranges ss depth kids base base nowhere → Answers (enough ix ss need) base (places_of want) r next × AllWindowed ix E.ranges ss depth kids' (optional_bound need (base + 64) base) base (λ p. ltb 0 need && bit p r)
+abbrev pub OptionalBitsPost : Lists → ℕ → ℕ → List ℕ → ℕ → ℕ → ℕ → ℕ → ℕ → ℕ → List ℕ → Type 0
+OptionalBitsPost E starts other_starts kids need base want depth r next kids' =
+    (n : ℕ) (ix : Index) (places : ℕ) (ss : Scorers) → Wanted n base want
+    → PartsKnown (lent_at E n) ix places ss → AllWindowed ix E.ranges ss depth kids base base nowhere
+    → Answers (enough ix ss need) base (places_of want) r next
+    × AllWindowed ix E.ranges ss depth kids' (optional_bound need (base + 64) base) base
+    (λ p. ltb 0 need && bit p r)
 
 -- the planes' count of those that match, and a document before which none matches after the window
 pub record CountsAre (ix : Index) (ss : Scorers) (base want : ℕ) (count : ℕ → ℕ) (next : ℕ) : Type 0 where
@@ -112,23 +132,33 @@ pub record CountsAre (ix : Index) (ss : Scorers) (base want : ℕ) (count : ℕ 
   pub gap : (d : ℕ) → base + 64 ≤ d → d < next → matching ix ss d ≡ 0
   pub top : next ≤ no_more_docs
 
-abbrev pub CountPost : Lent → ℕ → ℕ → List ℕ → ℕ → ℕ → ℕ → (ℕ → ℕ) → ℕ → List ℕ → Type 0
-CountPost E a b kids base want depth count next kids' =
-    (n : ℕ) (ix : Index) (places : ℕ) (ss : Scorers) → Wanted n base want → PartsKnown (lent_at E n) ix places ss → AllWindowed ix E.ranges ss depth kids base base nowhere → CountsAre ix ss base want count next × AllWindowed ix E.ranges ss depth kids' (base + 64) base (places_of want)
+abbrev pub CountPost : Lists → ℕ → ℕ → List ℕ → ℕ → ℕ → ℕ → (ℕ → ℕ) → ℕ → List ℕ → Type 0
+CountPost E starts other_starts kids base want depth count next kids' =
+    (n : ℕ) (ix : Index) (places : ℕ) (ss : Scorers) → Wanted n base want
+    → PartsKnown (lent_at E n) ix places ss → AllWindowed ix E.ranges ss depth kids base base nowhere
+    → CountsAre ix ss base want count next
+    × AllWindowed ix E.ranges ss depth kids' (base + 64) base (places_of want)
 
 -- any of them
-abbrev pub AnyPost : Lent → ℕ → ℕ → List ℕ → ℕ → ℕ → ℕ → ℕ → ℕ → List ℕ → Type 0
-AnyPost E a b kids base want depth r next kids' =
-    (n : ℕ) (ix : Index) (places : ℕ) (ss : Scorers) → Wanted n base want → PartsKnown (lent_at E n) ix places ss → AllWindowed ix E.ranges ss depth kids base base nowhere → Answers (any_matches ix ss) base (places_of want) r next × AllWindowed ix E.ranges ss depth kids' (base + 64) base (places_of want)
+abbrev pub AnyPost : Lists → ℕ → ℕ → List ℕ → ℕ → ℕ → ℕ → ℕ → ℕ → List ℕ → Type 0
+AnyPost E starts other_starts kids base want depth r next kids' =
+    (n : ℕ) (ix : Index) (places : ℕ) (ss : Scorers) → Wanted n base want
+    → PartsKnown (lent_at E n) ix places ss → AllWindowed ix E.ranges ss depth kids base base nowhere
+    → Answers (any_matches ix ss) base (places_of want) r next
+    × AllWindowed ix E.ranges ss depth kids' (base + 64) base (places_of want)
 
 -- the wanted documents that none of the prohibited matches
-abbrev pub ExcludedPost : Lent → ℕ → ℕ → List ℕ → ℕ → ℕ → ℕ → ℕ → List ℕ → Type 0
-ExcludedPost E a b kids base want depth r kids' =
-    (n : ℕ) (ix : Index) (places : ℕ) (ss : Scorers) → Wanted n base want → PartsKnown (lent_at E n) ix places ss → AllWindowed ix E.ranges ss depth kids base base nowhere → ((p : ℕ) → p < 64 → bit p r ≡ (bit p want && not (any_matches ix ss (base + p)))) × AllWindowed ix E.ranges ss depth kids' (base + 64) base nowhere
+abbrev pub ExcludedPost : Lists → ℕ → ℕ → List ℕ → ℕ → ℕ → ℕ → ℕ → List ℕ → Type 0
+ExcludedPost E starts other_starts kids base want depth r kids' =
+    (n : ℕ) (ix : Index) (places : ℕ) (ss : Scorers) → Wanted n base want
+    → PartsKnown (lent_at E n) ix places ss → AllWindowed ix E.ranges ss depth kids base base nowhere
+    → ((p : ℕ) → p < 64 → bit p r ≡ (bit p want && not (any_matches ix ss (base + p))))
+    × AllWindowed ix E.ranges ss depth kids' (base + 64) base nowhere
 
 -- ---- a Boolean
 -- the parts of its children, with where the required and the optional end, and the places that were asked
-pub record BooleanWindowed (ix : Index) (ranges : List ℕ) (rs os ps : Scorers) (depth required_end optional_end need : ℕ) (kids : List ℕ) (b base : ℕ) (D : Places) : Type 0 where
+pub record BooleanWindowed (ix : Index) (ranges : List ℕ) (rs os ps : Scorers)
+    (depth required_end optional_end need : ℕ) (kids : List ℕ) (b base : ℕ) (D : Places) : Type 0 where
   pub x : List ℕ
   pub v : List ℕ
   pub z : List ℕ
@@ -140,19 +170,27 @@ pub record BooleanWindowed (ix : Index) (ranges : List ℕ) (rs os ps : Scorers)
   pub prohibited : AllWindowed ix ranges ps depth z b base nowhere
 
 -- which documents it takes
-abbrev pub takes : Index → Scorers → Scorers → Scorers → ℕ → ℕ → Bool
-takes ix rs os ps need d = all_match ix rs d && not (any_matches ix ps d) && leb need (matching ix os d)
+abbrev pub parts_take : Index → Scorers → Scorers → Scorers → ℕ → ℕ → Bool
+parts_take ix rs os ps need d = all_match ix rs d && not (any_matches ix ps d) && leb need (matching ix os d)
 
-pub record BooleanKnown (E : Lent) (ix : Index) (places : ℕ) (rs os ps : Scorers) : Type 0 where
+pub record BooleanKnown (E : Lists) (ix : Index) (places : ℕ) (rs os ps : Scorers) : Type 0 where
   pub required : PartsKnown E ix places rs
   pub optional : PartsKnown E ix places os
   pub prohibited : PartsKnown E ix places ps
 
-abbrev pub BooleanPre : Lent → ℕ → ℕ → List ℕ → ℕ → ℕ → ℕ → ℕ → ℕ → ℕ → Type 0
-BooleanPre E a b kids required_end optional_end need base want depth =
-    (n : ℕ) × (ix : Index) × (places : ℕ) × (rs : Scorers) × (os : Scorers) × (ps : Scorers) × Called (lent_at E n) places a b base want × BooleanKnown (lent_at E n) ix places rs os ps × BooleanWindowed ix E.ranges rs os ps depth required_end optional_end need kids base base nowhere
+abbrev pub BooleanBitsPre : Lists → ℕ → ℕ → List ℕ → ℕ → ℕ → ℕ → ℕ → ℕ → ℕ → Type 0
+BooleanBitsPre E starts other_starts kids required_end optional_end need base want depth =
+    (n : ℕ) × (ix : Index) × (places : ℕ) × (rs : Scorers) × (os : Scorers) × (ps : Scorers)
+    × Called (lent_at E n) places starts other_starts base want
+    × BooleanKnown (lent_at E n) ix places rs os ps
+    × BooleanWindowed ix E.ranges rs os ps depth required_end optional_end need kids base base nowhere
 
 -- its answer; what its score needs of the children stands at the documents that it takes
-abbrev pub BooleanPost : Lent → ℕ → ℕ → List ℕ → ℕ → ℕ → ℕ → ℕ → ℕ → ℕ → ℕ → ℕ → List ℕ → Type 0
-BooleanPost E a b kids required_end optional_end need base want depth r next kids' =
-    (n : ℕ) (ix : Index) (places : ℕ) (rs os ps : Scorers) → Wanted n base want → BooleanKnown (lent_at E n) ix places rs os ps → BooleanWindowed ix E.ranges rs os ps depth required_end optional_end need kids base base nowhere → Answers (takes ix rs os ps need) base (places_of want) r next × BooleanWindowed ix E.ranges rs os ps depth required_end optional_end need kids' (base + 64) base (places_of r)
+abbrev pub BooleanBitsPost : Lists → ℕ → ℕ → List ℕ → ℕ → ℕ → ℕ → ℕ → ℕ → ℕ → ℕ → ℕ → List ℕ → Type 0
+BooleanBitsPost E starts other_starts kids required_end optional_end need base want depth r next kids' =
+    (n : ℕ) (ix : Index) (places : ℕ) (rs os ps : Scorers) → Wanted n base want
+    → BooleanKnown (lent_at E n) ix places rs os ps
+    → BooleanWindowed ix E.ranges rs os ps depth required_end optional_end need kids base base nowhere
+    → Answers (parts_take ix rs os ps need) base (places_of want) r next
+    × BooleanWindowed ix E.ranges rs os ps depth required_end optional_end need kids' (base + 64) base
+    (places_of r)

@@ -1,16 +1,17 @@
-// Which documents of a window of 64 a scorer tree matches: the words of a node are its record and then its children's parts.
+// Which documents of a window of 64 a scorer tree matches.
 #![tactic(auto)]
 
 ghost use Rattle.std.specs.Prelude.{◌≡◌, true, cond, not, ℕ, length};
-ghost use Rattle.planes.specs.Counts.{count};
-ghost use Rattle.leaf_scorer.specs.Calls.{lent_of};
-ghost use Rattle.leaf_scorer.specs.Buffers.{room, other_room, SameBuffers};
+ghost use Rattle.window_planes.specs.Counts.{count};
+ghost use Rattle.scorer_leaf.specs.Calls.{lists_of};
+ghost use Rattle.scorer_leaf.specs.Buffers.{room, other_room, SameBuffers};
 ghost use Rattle.window_leaf.specs.Asks.{BitsPre, BitsPost};
-ghost use Rattle.window_bits.specs.Parts.{PassPre, PassPost, PhrasesPost, PartsPre, OptionalPost, CountPost, AnyPost, ExcludedPost, BooleanPre, BooleanPost, phrase_kind, phrases_only};
+ghost use Rattle.window_bits.specs.Parts.{RequiredBitsPre, RequiredBitsPost, PhrasesPost, PartsBitsPre, OptionalBitsPost, CountPost, AnyPost, ExcludedPost, BooleanBitsPre, BooleanBitsPost, phrase_kind, phrases_only};
 
-use leaf_scorer::{NO_MORE_DOCS, PhraseBuffers};
-use node::{Boolean, NodeKind, boolean_at, child_at};
-use weight::NODE_STATE_WORDS;
+use scorer_leaf::{NO_MORE_DOCS, PhraseBuffers};
+use tree_node::{Boolean, NodeKind, boolean_at, child_at};
+use tree_weight::NODE_STATE_WORDS;
+use tree_weight::layout::{KIND, WINDOW_NEXT};
 use window_leaf::{Found, Window, leaf_bits, put, term_bits};
 
 // Counts of children go up to 255.
@@ -46,35 +47,37 @@ pub struct Pass {
 }
 
 // The wanted documents of the window that the node matches.
-// Kept: no plainer as one struct of the two, here and below: of them only `buffers` is lent for writing; with the window in it, each clause would
-// also say that it stays.
+// Kept: no plainer as one struct of the two, here and below: of them only `buffers` is lent for writing; with the
+// window in it, each clause would also say that it stays.
 #[cycle(any_bits_boolean_bits_child_bits_counted_bits_excluded_bits_node_bits_optional_bits_phrase_bits_required_bits)]
 pub fn node_bits(
-    st: &mut [u32],
+    states: &mut [u32],
     window: &Window<'_>,
     buffers: &mut PhraseBuffers<'_>,
     want: u64,
     depth: u32,
 ) -> u64
-    requires { BitsPre (lent_of window.now.reader) (room buffers.old) (other_room buffers.old) st.old window.now.base want depth }
-    ensures bits_post { BitsPost (lent_of window.now.reader) (room buffers.old) (other_room buffers.old) st.old window.now.base want depth result st.new }
+    requires { BitsPre (lists_of window.now.reader) (room buffers.old) (other_room buffers.old)
+        states.old window.now.base want depth }
+    ensures bits_post { BitsPost (lists_of window.now.reader) (room buffers.old)
+        (other_room buffers.old) states.old window.now.base want depth result states.new }
     ensures same_buffers { SameBuffers buffers.old buffers.new }
 {
-    match NodeKind::from(st[0]) {
+    match NodeKind::from(states[KIND]) {
         NodeKind::Boolean => {
-            let n = boolean_at(st);
+            let n = boolean_at(states);
             let f = boolean_bits(
-                &mut st[NODE_STATE_WORDS..],
+                &mut states[NODE_STATE_WORDS..],
                 window,
                 buffers,
                 n,
                 want,
                 depth - 1,
             );
-            put(st, f.bits, f.next);
+            put(states, f.bits, f.next);
             f.bits
         }
-        _ => leaf_bits(st, window, buffers, want, depth),
+        _ => leaf_bits(states, window, buffers, want, depth),
     }
 }
 
@@ -82,23 +85,26 @@ pub fn node_bits(
 #[inline(always)]
 #[cycle(any_bits_boolean_bits_child_bits_counted_bits_excluded_bits_node_bits_optional_bits_phrase_bits_required_bits)]
 pub fn child_bits(
-    st: &mut [u32],
+    states: &mut [u32],
     window: &Window<'_>,
     buffers: &mut PhraseBuffers<'_>,
     want: u64,
     depth: u32,
 ) -> u64
-    requires { BitsPre (lent_of window.now.reader) (room buffers.old) (other_room buffers.old) st.old window.now.base want depth }
-    ensures bits_post { BitsPost (lent_of window.now.reader) (room buffers.old) (other_room buffers.old) st.old window.now.base want depth result st.new }
+    requires { BitsPre (lists_of window.now.reader) (room buffers.old) (other_room buffers.old)
+        states.old window.now.base want depth }
+    ensures bits_post { BitsPost (lists_of window.now.reader) (room buffers.old)
+        (other_room buffers.old) states.old window.now.base want depth result states.new }
     ensures same_buffers { SameBuffers buffers.old buffers.new }
 {
-    match NodeKind::from(st[0]) {
-        NodeKind::Term => bits::both(want, term_bits(st, window.reader.postings, window.base)),
-        _ => node_bits(st, window, buffers, want, depth),
+    match NodeKind::from(states[KIND]) {
+        NodeKind::Term => bits::both(want, term_bits(states, window.reader.postings, window.base)),
+        _ => node_bits(states, window, buffers, want, depth),
     }
 }
 
-// The required children, cheapest first, but for phrases; then the optional, the prohibited, and last the phrases, whose positions cost most.
+// The required children without the phrases, cheapest first; then the optional, the prohibited, and last the required
+// phrases, whose positions cost most.
 #[cycle(any_bits_boolean_bits_child_bits_counted_bits_excluded_bits_node_bits_optional_bits_phrase_bits_required_bits)]
 fn boolean_bits(
     kids: &mut [u32],
@@ -108,8 +114,11 @@ fn boolean_bits(
     want: u64,
     depth: u32,
 ) -> Found
-    requires { BooleanPre (lent_of window.now.reader) (room buffers.old) (other_room buffers.old) kids.old n.required_end n.optional_end n.need window.now.base want depth }
-    ensures boolean_post { BooleanPost (lent_of window.now.reader) (room buffers.old) (other_room buffers.old) kids.old n.required_end n.optional_end n.need window.now.base want depth result.bits result.next kids.new }
+    requires { BooleanBitsPre (lists_of window.now.reader) (room buffers.old) (other_room buffers.old)
+        kids.old n.required_end n.optional_end n.need window.now.base want depth }
+    ensures boolean_post { BooleanBitsPost (lists_of window.now.reader) (room buffers.old)
+        (other_room buffers.old) kids.old n.required_end n.optional_end n.need window.now.base want
+        depth result.bits result.next kids.new }
     ensures same_buffers { SameBuffers buffers.old buffers.new }
 {
     let end = n.required_end;
@@ -139,7 +148,8 @@ fn boolean_bits(
 }
 
 // The second pass over the required children, where the first skipped some.
-// Kept: no plainer in the caller, where the two ways would join before the answers are put together; `skipped` is what the first pass saw.
+// Kept: no plainer in the caller, where the two ways would join before the answers are put together; `skipped` is what
+// the first pass saw.
 #[cycle(any_bits_boolean_bits_child_bits_counted_bits_excluded_bits_node_bits_optional_bits_phrase_bits_required_bits)]
 fn phrase_bits(
     kids: &mut [u32],
@@ -149,8 +159,11 @@ fn phrase_bits(
     want: u64,
     depth: u32,
 ) -> Found
-    requires { PassPre (lent_of window.now.reader) (room buffers.old) (other_room buffers.old) kids.old true window.now.base want depth }
-    ensures phrases_post { PhrasesPost (lent_of window.now.reader) (room buffers.old) (other_room buffers.old) kids.old skipped window.now.base want depth result.bits result.next kids.new }
+    requires { RequiredBitsPre (lists_of window.now.reader) (room buffers.old) (other_room buffers.old)
+        kids.old true window.now.base want depth }
+    ensures phrases_post { PhrasesPost (lists_of window.now.reader) (room buffers.old)
+        (other_room buffers.old) kids.old skipped window.now.base want depth result.bits result.next
+        kids.new }
     ensures same_buffers { SameBuffers buffers.old buffers.new }
 {
     if skipped {
@@ -163,7 +176,7 @@ fn phrase_bits(
     }
 }
 
-// Each child of the pass is asked for what those before it left, and none once nothing is left.
+// Each child that the pass asks gets what those before it left, and none is asked once nothing is left.
 #[cycle(any_bits_boolean_bits_child_bits_counted_bits_excluded_bits_node_bits_optional_bits_phrase_bits_required_bits)]
 fn required_bits(
     kids: &mut [u32],
@@ -173,8 +186,11 @@ fn required_bits(
     want: u64,
     depth: u32,
 ) -> Pass
-    requires { PassPre (lent_of window.now.reader) (room buffers.old) (other_room buffers.old) kids.old (phrases_only asks) window.now.base want depth }
-    ensures pass_post { PassPost (lent_of window.now.reader) (room buffers.old) (other_room buffers.old) kids.old (phrases_only asks) window.now.base want depth result.found.bits result.found.next result.skipped kids.new }
+    requires { RequiredBitsPre (lists_of window.now.reader) (room buffers.old) (other_room buffers.old)
+        kids.old (phrases_only asks) window.now.base want depth }
+    ensures pass_post { RequiredBitsPost (lists_of window.now.reader) (room buffers.old)
+        (other_room buffers.old) kids.old (phrases_only asks) window.now.base want depth
+        result.found.bits result.found.next result.skipped kids.new }
     ensures same_buffers { SameBuffers buffers.old buffers.new }
 {
     let mut w = want;
@@ -182,7 +198,7 @@ fn required_bits(
     let mut skipped = false;
     let mut at = 0;
     // The window is read at each turn: read once before the loops, it was up to 3 parts in a hundred slower.
-    // Kept: no plainer: parts differ in length and are lent for writing, so an iterator would hold `kids` and `at` itself.
+    // Kept: parts differ in length and are lent for writing, so an iterator would hold `kids` and `at` itself.
     while at < kids.len() {
         if w == 0 {
             return Pass {
@@ -194,7 +210,7 @@ fn required_bits(
         let end = k.end;
         if asks.takes(k.kind) {
             w = child_bits(&mut kids[at..end], window, buffers, w, depth);
-            next = next.max(kids[at + 22]);
+            next = next.max(kids[at + WINDOW_NEXT]);
         } else {
             skipped = true;
         }
@@ -206,7 +222,7 @@ fn required_bits(
     }
 }
 
-// Those of the wanted documents that at least `need` of the children match; where none is needed they are asked with the score.
+// The wanted documents that at least `need` of the children match; where none is needed they are asked with the score.
 #[cycle(any_bits_boolean_bits_child_bits_counted_bits_excluded_bits_node_bits_optional_bits_phrase_bits_required_bits)]
 fn optional_bits(
     kids: &mut [u32],
@@ -216,8 +232,11 @@ fn optional_bits(
     want: u64,
     depth: u32,
 ) -> Found
-    requires { PartsPre (lent_of window.now.reader) (room buffers.old) (other_room buffers.old) kids.old window.now.base want depth }
-    ensures optional_post { OptionalPost (lent_of window.now.reader) (room buffers.old) (other_room buffers.old) kids.old need window.now.base want depth result.bits result.next kids.new }
+    requires { PartsBitsPre (lists_of window.now.reader) (room buffers.old) (other_room buffers.old)
+        kids.old window.now.base want depth }
+    ensures optional_post { OptionalBitsPost (lists_of window.now.reader) (room buffers.old)
+        (other_room buffers.old) kids.old need window.now.base want depth result.bits result.next
+        kids.new }
     ensures same_buffers { SameBuffers buffers.old buffers.new }
 {
     if need == 0 || want == 0 {
@@ -238,12 +257,12 @@ fn optional_bits(
     let mut planes = [0u64; PLANES];
     let next = counted_bits(kids, window, buffers, &mut planes, want, depth);
     Found {
-        bits: planes::above(&planes, need - 1, want),
+        bits: window_planes::above(&planes, need - 1, want),
         next,
     }
 }
 
-// Those that some child matches.
+// The wanted documents that some child matches.
 #[cycle(any_bits_boolean_bits_child_bits_counted_bits_excluded_bits_node_bits_optional_bits_phrase_bits_required_bits)]
 fn any_bits(
     kids: &mut [u32],
@@ -252,14 +271,17 @@ fn any_bits(
     want: u64,
     depth: u32,
 ) -> Found
-    requires { PartsPre (lent_of window.now.reader) (room buffers.old) (other_room buffers.old) kids.old window.now.base want depth }
-    ensures any_post { AnyPost (lent_of window.now.reader) (room buffers.old) (other_room buffers.old) kids.old window.now.base want depth result.bits result.next kids.new }
+    requires { PartsBitsPre (lists_of window.now.reader) (room buffers.old) (other_room buffers.old)
+        kids.old window.now.base want depth }
+    ensures any_post { AnyPost (lists_of window.now.reader) (room buffers.old)
+        (other_room buffers.old) kids.old window.now.base want depth result.bits result.next
+        kids.new }
     ensures same_buffers { SameBuffers buffers.old buffers.new }
 {
     let mut w = 0;
     let mut next = NO_MORE_DOCS;
     let mut at = 0;
-    // Kept: no plainer: parts differ in length and are lent for writing, so an iterator would hold `kids` and `at` itself.
+    // Kept: parts differ in length and are lent for writing, so an iterator would hold `kids` and `at` itself.
     while at < kids.len() {
         let k = child_at(kids, at);
         let end = k.end;
@@ -267,13 +289,14 @@ fn any_bits(
             w,
             child_bits(&mut kids[at..end], window, buffers, want, depth),
         );
-        next = next.min(kids[at + 22]); // the first that any of them may match
+        next = next.min(kids[at + WINDOW_NEXT]); // the first that any of them may match
         at = end;
     }
     Found { bits: w, next }
 }
 
-// How many children match each wanted document, as planes of bits; gives a document before which none matches after the window.
+// Counts in bit planes how many children match each wanted document; gives a document before which none matches behind
+// the window.
 #[cycle(any_bits_boolean_bits_child_bits_counted_bits_excluded_bits_node_bits_optional_bits_phrase_bits_required_bits)]
 fn counted_bits(
     kids: &mut [u32],
@@ -284,20 +307,23 @@ fn counted_bits(
     depth: u32,
 ) -> u32
     requires empty { (length planes.old ≡ 8) × ((p : ℕ) → count p planes.old ≡ 0) }
-    requires parts_pre { PartsPre (lent_of window.now.reader) (room buffers.old) (other_room buffers.old) kids.old window.now.base want depth }
-    ensures count_post { CountPost (lent_of window.now.reader) (room buffers.old) (other_room buffers.old) kids.old window.now.base want depth (λ p. count p planes.new) result kids.new }
+    requires parts_pre { PartsBitsPre (lists_of window.now.reader) (room buffers.old)
+        (other_room buffers.old) kids.old window.now.base want depth }
+    ensures count_post { CountPost (lists_of window.now.reader) (room buffers.old)
+        (other_room buffers.old) kids.old window.now.base want depth (λ p. count p planes.new)
+        result kids.new }
     ensures same_buffers { SameBuffers buffers.old buffers.new }
     ensures planes_length { length planes.new ≡ 8 }
 {
     let mut next = NO_MORE_DOCS;
     let mut at = 0;
-    // Kept: no plainer: parts differ in length and are lent for writing, so an iterator would hold `kids` and `at` itself.
+    // Kept: parts differ in length and are lent for writing, so an iterator would hold `kids` and `at` itself.
     while at < kids.len() {
         let k = child_at(kids, at);
         let end = k.end;
         let child = child_bits(&mut kids[at..end], window, buffers, want, depth);
-        let _carry = planes::counted(planes, child);
-        next = next.min(kids[at + 22]);
+        let _carry = window_planes::counted(planes, child);
+        next = next.min(kids[at + WINDOW_NEXT]);
         at = end;
     }
     next
@@ -312,13 +338,15 @@ fn excluded_bits(
     want: u64,
     depth: u32,
 ) -> u64
-    requires { PartsPre (lent_of window.now.reader) (room buffers.old) (other_room buffers.old) kids.old window.now.base want depth }
-    ensures excluded_post { ExcludedPost (lent_of window.now.reader) (room buffers.old) (other_room buffers.old) kids.old window.now.base want depth result kids.new }
+    requires { PartsBitsPre (lists_of window.now.reader) (room buffers.old) (other_room buffers.old)
+        kids.old window.now.base want depth }
+    ensures excluded_post { ExcludedPost (lists_of window.now.reader) (room buffers.old)
+        (other_room buffers.old) kids.old window.now.base want depth result kids.new }
     ensures same_buffers { SameBuffers buffers.old buffers.new }
 {
     let mut w = want;
     let mut at = 0;
-    // Kept: no plainer: parts differ in length and are lent for writing, so an iterator would hold `kids` and `at` itself.
+    // Kept: parts differ in length and are lent for writing, so an iterator would hold `kids` and `at` itself.
     while at < kids.len() {
         if w == 0 {
             return w;

@@ -5,28 +5,28 @@ use mathlib.Core.Bool.{and-false}
 use Rattle.meaning.specs.Limits.{no_more_docs}
 use Rattle.meaning.specs.Lent.{Index}
 use Rattle.meaning.proofs.Tests.{decided}
-use Rattle.weight.specs.ScorerTree.{nothing, term, phrase, range, everything, Scoring, Scorer, leaf, boolean, leaf_matches, matches}
-use Rattle.weight.specs.State.{State}
-use Rattle.weight.specs.Sound.{LeafSound, Sound}
+use Rattle.tree_weight.specs.ScorerTree.{nothing, term, phrase, range, everything, Scoring, Scorer, leaf, boolean, leaf_matches, matches}
+use Rattle.tree_weight.specs.State.{State}
+use Rattle.tree_weight.specs.Sound.{LeafSound, Sound}
 use Rattle.bits.specs.Bit.{bit, Bitmap}
 use Rattle.bits.proofs.Laws.{bit-zero}
-use Rattle.leaf_scorer.specs.Calls.{Lent}
-use Rattle.leaf_scorer.specs.Search.{SearchHeld}
-use Rattle.leaf_scorer.proofs.LeafLaws.{term-run, range-over}
+use Rattle.scorer_leaf.specs.Calls.{Lists}
+use Rattle.scorer_leaf.specs.Search.{SearchHeld}
+use Rattle.scorer_leaf.proofs.LeafLaws.{term-run, range-over}
 use Rattle.window.specs.Windows.{in_run}
 use Rattle.window_words.specs.Windowed.{nowhere, places_of, Stored, LeafWindowed, Windowed}
 use Rattle.window_words.proofs.Laws.{kind_of, windowed-kind, windowed-less}
 use Rattle.window_leaf.specs.Asks.{Answers, everywhere, Wanted, NodeWindowed}
-use Rattle.window_leaf.specs.Runs.{window_at, answered, PutPre, PutPost, RunMoved, RunPost}
+use Rattle.window_leaf.specs.Runs.{window_at, run_answered, PutPre, PutPost, RunMoved, RunBitsPost}
 use Rattle.window_leaf.proofs.Records.{stored-bits, scoring-kept, term-run-like, term-passed, term-window}
 use Rattle.window_leaf.proofs.Ranges.{range-answered}
 
 -- ---- what a moved run answers, where it is the documents of P
-module _ (words : List ℕ) (stride : ℕ) (s : State) (w : List ℕ) (base r : ℕ) (st' : List ℕ) (m : RunMoved words stride s w base r st') (P : ℕ → Bool) (like : (d : ℕ) → in_run words stride s.first s.number d ≡ P d) where
-  next-read : m.next ≡ get_or st' 22 0
+module _ (words : List ℕ) (stride : ℕ) (s : State) (w : List ℕ) (base r : ℕ) (states' : List ℕ) (m : RunMoved words stride s w base r states') (P : ℕ → Bool) (like : (d : ℕ) → in_run words stride s.first s.number d ≡ P d) where
+  next-read : m.next ≡ get_or states' 22 0
   next-read = sym (ap (λ (l : List ℕ). get_or l 22 0) m.words_are)
 
-  pub run-answers : Answers P base everywhere r (get_or st' 22 0)
+  pub run-answers : Answers P base everywhere r (get_or states' 22 0)
   run-answers =
       subst (λ (n : ℕ). Answers P base everywhere r n) next-read
       (record {
@@ -46,63 +46,63 @@ wanted-answers P base want r n v a h = record { bits = λ p g. h p ∙ ap (λ (b
 pub wanted-windowed : (ix : Index) (R : List ℕ) (s : Scorer) (k o : ℕ) (y : List ℕ) (b base want : ℕ) → Windowed ix R s k o y b base everywhere → Windowed ix R s k o y b base (places_of want)
 wanted-windowed ix R s k o y b base want h = windowed-less ix R s k o y b base everywhere (places_of want) (λ p g e. refl) h
 
-module _ (E : Lent) (ix : Index) (places k o : ℕ) (st : List ℕ) (base : ℕ) where
-  kind-is : (n : ℕ) → get_or st 0 0 ≡ n → (s : Scorer) → NodeWindowed E ix places s k o st base → kind_of s ≡ n
-  kind-is n e s h = sym (windowed-kind ix E.ranges s k o st base base nowhere h.held) ∙ e
+module _ (E : Lists) (ix : Index) (places k o : ℕ) (states : List ℕ) (base : ℕ) where
+  kind-is : (n : ℕ) → get_or states 0 0 ≡ n → (s : Scorer) → NodeWindowed E ix places s k o states base → kind_of s ≡ n
+  kind-is n e s h = sym (windowed-kind ix E.ranges s k o states base base nowhere h.held) ∙ e
 
   -- the record at the front
-  pub node-front : (s : Scorer) → NodeWindowed E ix places s k o st base → PutPre st
+  pub node-front : (s : Scorer) → NodeWindowed E ix places s k o states base → PutPre states
   unfolding Windowed
   node-front (leaf l sc) h = (h.held.0, h.held.1, h.held.2)
   node-front (boolean c j need rs os ps) h = (h.held.0, h.held.1 ++ (h.held.2 ++ h.held.3), h.held.4)
 
   -- ---- a term
-  module _ (e : get_or st 0 0 ≡ 1) where
-    term-held : (l : ℕ) (sc : Scoring) (h : NodeWindowed E ix places (leaf (term l) sc) k o st base) → (s : State) × (w : List ℕ) × SearchHeld ix.postings 3 s w st base
+  module _ (e : get_or states 0 0 ≡ 1) where
+    term-held : (l : ℕ) (sc : Scoring) (h : NodeWindowed E ix places (leaf (term l) sc) k o states base) → (s : State) × (w : List ℕ) × SearchHeld ix.postings 3 s w states base
     unfolding Windowed LeafWindowed Sound LeafSound
     term-held l sc h =
         let p = h.held in
-        (p.0, p.1, term-run ix h.lends.accepted 1 l h.sound p.0 base p.4.0 p.1 st p.2)
+        (p.0, p.1, term-run ix h.lends.accepted 1 l h.sound p.0 base p.4.0 p.1 states p.2)
 
-    pub term-asks : (s : Scorer) → NodeWindowed E ix places s k o st base → (s : State) × (w : List ℕ) × SearchHeld E.postings 3 s w st base
+    pub term-asks : (s : Scorer) → NodeWindowed E ix places s k o states base → (s : State) × (w : List ℕ) × SearchHeld E.postings 3 s w states base
     unfolding kind_of
     term-asks (leaf nothing sc) h = absurd (eqb-false 0 1 refl (kind-is 1 e (leaf nothing sc) h))
-    term-asks (leaf (term l) sc) h = subst (λ (y : List ℕ). (s : State) × (w : List ℕ) × SearchHeld y 3 s w st base) h.lends.postings-are (term-held l sc h)
+    term-asks (leaf (term l) sc) h = subst (λ (y : List ℕ). (s : State) × (w : List ℕ) × SearchHeld y 3 s w states base) h.lends.postings-are (term-held l sc h)
     term-asks (leaf (phrase f ts) sc) h = absurd (eqb-false 2 1 refl (kind-is 1 e (leaf (phrase f ts) sc) h))
     term-asks (leaf (range r) sc) h = absurd (eqb-false 4 1 refl (kind-is 1 e (leaf (range r) sc) h))
     term-asks (leaf everything sc) h = absurd (eqb-false 5 1 refl (kind-is 1 e (leaf everything sc) h))
     term-asks (boolean c j need rs os ps) h = absurd (eqb-false 3 1 refl (kind-is 1 e (boolean c j need rs os ps) h))
 
-    module _ (r : ℕ) (st' : List ℕ) (post : RunPost E.postings 3 st base r st') where
+    module _ (r : ℕ) (states' : List ℕ) (post : RunBitsPost E.postings 3 states base r states') where
       Answered : Scorer → Type 0
-      Answered s = Answers (matches ix s) base everywhere r (get_or st' 22 0) × Windowed ix E.ranges s k o st' (base + 64) base everywhere
+      Answered s = Answers (matches ix s) base everywhere r (get_or states' 22 0) × Windowed ix E.ranges s k o states' (base + 64) base everywhere
 
-      term-leaf : (l : ℕ) (sc : Scoring) → NodeWindowed E ix places (leaf (term l) sc) k o st base → Answered (leaf (term l) sc)
+      term-leaf : (l : ℕ) (sc : Scoring) → NodeWindowed E ix places (leaf (term l) sc) k o states base → Answered (leaf (term l) sc)
       unfolding Answered Windowed LeafWindowed Sound LeafSound matches leaf_matches
       term-leaf l sc h =
           let p = h.held in
           let acc = h.lends.accepted in
-          let own : RunPost ix.postings 3 st base r st' = subst (λ (y : List ℕ). RunPost y 3 st base r st') (sym h.lends.postings-are) post in
-          let m = own p.0 p.1 (term-run ix acc 1 l h.sound p.0 base p.4.0 p.1 st p.2) in
+          let own : RunBitsPost ix.postings 3 states base r states' = subst (λ (y : List ℕ). RunBitsPost y 3 states base r states') (sym h.lends.postings-are) post in
+          let m = own p.0 p.1 (term-run ix acc 1 l h.sound p.0 base p.4.0 p.1 states p.2) in
           let like = term-run-like ix acc 1 l h.sound p.0 base p.4.0 in (
-            run-answers ix.postings 3 p.0 p.1 base r st' m (leaf_matches ix (term l)) like,
+            run-answers ix.postings 3 p.0 p.1 base r states' m (leaf_matches ix (term l)) like,
             (
               window_at p.0 m.cursor m.first r m.next,
               p.1,
               m.words_are,
               p.3,
               (
-                term-passed ix acc 1 l h.sound p.0 base p.4.0 p.1 r st' m,
+                term-passed ix acc 1 l h.sound p.0 base p.4.0 p.1 r states' m,
                 p.4.1,
                 p.4.2,
-                λ q g d. term-window ix acc 1 l h.sound p.0 base p.4.0 p.1 r st' m,
+                λ q g d. term-window ix acc 1 l h.sound p.0 base p.4.0 p.1 r states' m,
               ),
               scoring-kept sc p.0 m.cursor m.first r m.next p.5,
-              run-stored ix.postings 3 p.0 p.1 base r st' m (leaf_matches ix (term l)) like,
+              run-stored ix.postings 3 p.0 p.1 base r states' m (leaf_matches ix (term l)) like,
             ),
           )
 
-      pub term-answer : (s : Scorer) → NodeWindowed E ix places s k o st base → Answers (matches ix s) base everywhere r (get_or st' 22 0) × Windowed ix E.ranges s k o st' (base + 64) base everywhere
+      pub term-answer : (s : Scorer) → NodeWindowed E ix places s k o states base → Answers (matches ix s) base everywhere r (get_or states' 22 0) × Windowed ix E.ranges s k o states' (base + 64) base everywhere
       unfolding kind_of Answered
       term-answer (leaf nothing sc) h = absurd (eqb-false 0 1 refl (kind-is 1 e (leaf nothing sc) h))
       term-answer (leaf (term l) sc) h = term-leaf l sc h
@@ -112,8 +112,8 @@ module _ (E : Lent) (ix : Index) (places k o : ℕ) (st : List ℕ) (base : ℕ)
       term-answer (boolean c j need rs os ps) h = absurd (eqb-false 3 1 refl (kind-is 1 e (boolean c j need rs os ps) h))
 
   -- ---- a range
-  module _ (e : get_or st 0 0 ≡ 4) where
-    pub range-asks : (s : Scorer) → NodeWindowed E ix places s k o st base → get_or st 6 0 + get_or st 7 0 ≤ length E.ranges
+  module _ (e : get_or states 0 0 ≡ 4) where
+    pub range-asks : (s : Scorer) → NodeWindowed E ix places s k o states base → get_or states 6 0 + get_or states 7 0 ≤ length E.ranges
     unfolding kind_of Windowed LeafWindowed
     range-asks (leaf nothing sc) h = absurd (eqb-false 0 4 refl (kind-is 4 e (leaf nothing sc) h))
     range-asks (leaf (term l) sc) h = absurd (eqb-false 1 4 refl (kind-is 4 e (leaf (term l) sc) h))
@@ -122,9 +122,9 @@ module _ (E : Lent) (ix : Index) (places k o : ℕ) (st : List ℕ) (base : ℕ)
     range-asks (leaf everything sc) h = absurd (eqb-false 5 4 refl (kind-is 4 e (leaf everything sc) h))
     range-asks (boolean c j need rs os ps) h = absurd (eqb-false 3 4 refl (kind-is 4 e (boolean c j need rs os ps) h))
 
-    module _ (r : ℕ) (st' : List ℕ) (top : base + 64 ≤ no_more_docs) (post : PutPost st r (base + 64) st')
-        (part : (P : ℕ → Bool) → Bitmap P E.ranges (get_or st 6 0) (get_or st 7 0) → ((d : ℕ) → 32 * get_or st 7 0 ≤ d → P d ≡ false) → (p : ℕ) → p < 64 → bit p r ≡ P (base + p)) where
-      pub range-answer : (s : Scorer) → NodeWindowed E ix places s k o st base → Answers (matches ix s) base everywhere r (get_or st' 22 0) × Windowed ix E.ranges s k o st' (base + 64) base everywhere
+    module _ (r : ℕ) (states' : List ℕ) (top : base + 64 ≤ no_more_docs) (post : PutPost states r (base + 64) states')
+        (part : (P : ℕ → Bool) → Bitmap P E.ranges (get_or states 6 0) (get_or states 7 0) → ((d : ℕ) → 32 * get_or states 7 0 ≤ d → P d ≡ false) → (p : ℕ) → p < 64 → bit p r ≡ P (base + p)) where
+      pub range-answer : (s : Scorer) → NodeWindowed E ix places s k o states base → Answers (matches ix s) base everywhere r (get_or states' 22 0) × Windowed ix E.ranges s k o states' (base + 64) base everywhere
       unfolding kind_of Windowed LeafWindowed matches
       range-answer (leaf nothing sc) h = absurd (eqb-false 0 4 refl (kind-is 4 e (leaf nothing sc) h))
       range-answer (leaf (term l) sc) h = absurd (eqb-false 1 4 refl (kind-is 4 e (leaf (term l) sc) h))
@@ -133,12 +133,12 @@ module _ (E : Lent) (ix : Index) (places k o : ℕ) (st : List ℕ) (base : ℕ)
           let p = h.held in
           let acc = h.lends.accepted in
           let is = post p.0 p.1 p.2 in
-          let front : get_or st 6 0 ≡ p.0.first = rw p.2 in
-          let count : get_or st 7 0 ≡ p.0.number = rw p.2 in
+          let front : get_or states 6 0 ≡ p.0.first = rw p.2 in
+          let count : get_or states 7 0 ≡ p.0.number = rw p.2 in
           let bits : (q : ℕ) → q < 64 → bit q r ≡ leaf_matches ix (range x) (base + q) = part (leaf_matches ix (range x)) (rw (front, count) p.4.0.bits) (rw count (range-over ix acc E.ranges x p.0 p.4.0)) in (
             subst (λ (n : ℕ). Answers (leaf_matches ix (range x)) base everywhere r n) (sym (ap (λ (l : List ℕ). get_or l 22 0) is)) (record { bits = bits; gap = λ d a b. absurd (omega (arith, a, b)); top = top }),
             (
-              answered p.0 r (base + 64),
+              run_answered p.0 r (base + 64),
               p.1,
               is,
               p.3,
@@ -151,7 +151,7 @@ module _ (E : Lent) (ix : Index) (places k o : ℕ) (st : List ℕ) (base : ℕ)
       range-answer (boolean c j need rs os ps) h = absurd (eqb-false 3 4 refl (kind-is 4 e (boolean c j need rs os ps) h))
 
   -- ---- everything: the wanted documents are there
-  module _ (e : get_or st 0 0 ≡ 5) (want : ℕ) (st' : List ℕ) (top : base + 64 ≤ no_more_docs) (all : Wanted E.documents base want) (post : PutPost st want (base + 64) st') where
+  module _ (e : get_or states 0 0 ≡ 5) (want : ℕ) (states' : List ℕ) (top : base + 64 ≤ no_more_docs) (all : Wanted E.documents base want) (post : PutPost states want (base + 64) states') where
     wanted-there : ix.max_doc ≡ E.documents → (p : ℕ) → p < 64 → bit p want ≡ true → ltb (base + p) ix.max_doc ≡ true
     wanted-there n p h g = lt-ltb (base + p) ix.max_doc (omega (arith, n, all p h g))
 
@@ -159,7 +159,7 @@ module _ (E : Lent) (ix : Index) (places k o : ℕ) (st : List ℕ) (base : ℕ)
     wanted-bits n p h =
         ⊎_elim (λ g. g ∙ sym (ap (λ (b : Bool). b && ltb (base + p) ix.max_doc) g ∙ wanted-there n p h g)) (λ g. g ∙ sym (ap (λ (b : Bool). b && ltb (base + p) ix.max_doc) g)) (decided (bit p want))
 
-    pub all-answer : (s : Scorer) → NodeWindowed E ix places s k o st base → Answers (matches ix s) base (places_of want) want (get_or st' 22 0) × Windowed ix E.ranges s k o st' (base + 64) base (places_of want)
+    pub all-answer : (s : Scorer) → NodeWindowed E ix places s k o states base → Answers (matches ix s) base (places_of want) want (get_or states' 22 0) × Windowed ix E.ranges s k o states' (base + 64) base (places_of want)
     unfolding kind_of Windowed LeafWindowed matches leaf_matches
     all-answer (leaf nothing sc) h = absurd (eqb-false 0 5 refl (kind-is 5 e (leaf nothing sc) h))
     all-answer (leaf (term l) sc) h = absurd (eqb-false 1 5 refl (kind-is 5 e (leaf (term l) sc) h))
@@ -172,7 +172,7 @@ module _ (E : Lent) (ix : Index) (places k o : ℕ) (st : List ℕ) (base : ℕ)
           subst (λ (x : ℕ). Answers (leaf_matches ix everything) base (places_of want) want x) (sym (ap (λ (l : List ℕ). get_or l 22 0) is))
               (record { bits = wanted-bits n; gap = λ d a b. absurd (omega (arith, a, b)); top = top }),
           (
-            answered p.0 want (base + 64),
+            run_answered p.0 want (base + 64),
             p.1,
             is,
             p.3,
@@ -184,11 +184,11 @@ module _ (E : Lent) (ix : Index) (places k o : ℕ) (st : List ℕ) (base : ℕ)
     all-answer (boolean c j need rs os ps) h = absurd (eqb-false 3 5 refl (kind-is 5 e (boolean c j need rs os ps) h))
 
   -- ---- nothing
-  module _ (n1 : get_or st 0 0 ≡ 1 → ⊥) (n2 : get_or st 0 0 ≡ 2 → ⊥) (n3 : get_or st 0 0 ≡ 3 → ⊥) (n4 : get_or st 0 0 ≡ 4 → ⊥) (n5 : get_or st 0 0 ≡ 5 → ⊥) (want : ℕ) (st' : List ℕ) (post : PutPost st 0 no_more_docs st') where
-    kind-read : (s : Scorer) → NodeWindowed E ix places s k o st base → get_or st 0 0 ≡ kind_of s
-    kind-read s h = windowed-kind ix E.ranges s k o st base base nowhere h.held
+  module _ (n1 : get_or states 0 0 ≡ 1 → ⊥) (n2 : get_or states 0 0 ≡ 2 → ⊥) (n3 : get_or states 0 0 ≡ 3 → ⊥) (n4 : get_or states 0 0 ≡ 4 → ⊥) (n5 : get_or states 0 0 ≡ 5 → ⊥) (want : ℕ) (states' : List ℕ) (post : PutPost states 0 no_more_docs states') where
+    kind-read : (s : Scorer) → NodeWindowed E ix places s k o states base → get_or states 0 0 ≡ kind_of s
+    kind-read s h = windowed-kind ix E.ranges s k o states base base nowhere h.held
 
-    pub none-answer : (s : Scorer) → NodeWindowed E ix places s k o st base → Answers (matches ix s) base (places_of want) 0 (get_or st' 22 0) × Windowed ix E.ranges s k o st' (base + 64) base (places_of want)
+    pub none-answer : (s : Scorer) → NodeWindowed E ix places s k o states base → Answers (matches ix s) base (places_of want) 0 (get_or states' 22 0) × Windowed ix E.ranges s k o states' (base + 64) base (places_of want)
     unfolding kind_of Windowed LeafWindowed matches leaf_matches
     none-answer (leaf nothing sc) h =
         let p = h.held in
@@ -196,7 +196,7 @@ module _ (E : Lent) (ix : Index) (places k o : ℕ) (st : List ℕ) (base : ℕ)
           subst (λ (x : ℕ). Answers (leaf_matches ix nothing) base (places_of want) 0 x) (sym (ap (λ (l : List ℕ). get_or l 22 0) is))
               (record { bits = λ q g. bit-zero q ∙ sym (and-false (bit q want)); gap = λ d a b. refl; top = le_refl no_more_docs }),
           (
-            answered p.0 0 no_more_docs,
+            run_answered p.0 0 no_more_docs,
             p.1,
             is,
             p.3,

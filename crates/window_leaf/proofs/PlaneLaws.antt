@@ -1,10 +1,11 @@
 -- The frequency of a phrase at a place of a window, and the frequencies of the window noted in two planes. Assumes nothing.
+use Rattle.std.proofs.lemmas.Bool.{and_parts}
 use Rattle.std.proofs.Common.{◌≡◌, refl, sym, ap, ap₂, subst, ◌∙◌, Bool, true, false, cond, not, ◌&&◌, ◌||◌, ⊎_elim, List, ℕ, zero, suc, ◌+◌, ◌*◌, ◌≤◌, ◌<◌, min, eqb, eqb-true, eq-eqb, [], get_or, arith}
 use mathlib.Core.Bool.{and-true, and-false, or-false, false≢true}
 use Rattle.meaning.proofs.Tests.{decided}
 use Rattle.meaning.specs.Lent.{Index}
 use Rattle.meaning.specs.Phrase.{PhraseTerm, phrase_frequency}
-use Rattle.leaf_scorer.specs.Phrases.{PostingsHeld}
+use Rattle.scorer_leaf.specs.Phrases.{PostingsHeld}
 use Rattle.window_words.specs.Windowed.{Places}
 use Rattle.bits.specs.Bit.{bit, LowestBit}
 use Rattle.bits.proofs.Laws.{bit-zero}
@@ -159,8 +160,4 @@ module _ {ix : Index} {ts : List PhraseTerm} {base candidates : ℕ} where
 
 -- those left are among the candidates
 pub left-among : (candidates left left' t : ℕ) → ((p : ℕ) → bit p left' ≡ (bit p left && not (eqb p t))) → ((p : ℕ) → bit p left ≡ true → bit p candidates ≡ true) → (p : ℕ) → bit p left' ≡ true → bit p candidates ≡ true
-left-among candidates left left' t others among p e = among p (first (bit p left) (not (eqb p t)) (sym (others p) ∙ e))
-  where
-    first : (a b : Bool) → (a && b) ≡ true → a ≡ true
-    first true b e = refl
-    first false b e = e
+left-among candidates left left' t others among p e = among p (and_parts (bit p left) (not (eqb p t)) (sym (others p) ∙ e)).0

@@ -5,12 +5,12 @@ use Rattle.std.proofs.lemmas.List.{get_or_past}
 use Rattle.meaning.specs.Lent.{Index}
 use Rattle.meaning.specs.Range.{NumericRange}
 use Rattle.meaning.proofs.Tests.{cmp}
-use Rattle.weight.specs.State.{State}
-use Rattle.weight.specs.Held.{RangeIs}
+use Rattle.tree_weight.specs.State.{State}
+use Rattle.tree_weight.specs.Held.{RangeIs}
 use Rattle.bits.specs.Bit.{bit, Bitmap}
 use Rattle.bits.proofs.Laws.{bit-zero, bit-low, bit-shift}
-use Rattle.leaf_scorer.proofs.Bitmaps.{slice, slice-bitmap, slice-over}
-use Rattle.window_leaf.specs.Runs.{answered, PartOf}
+use Rattle.scorer_leaf.proofs.Bitmaps.{slice, slice-bitmap, slice-over}
+use Rattle.window_leaf.specs.Runs.{run_answered, PartOf}
 
 -- a word of a bitmap; behind its last word there are no bits
 pub part-at : (bitmap : List ℕ) (at : ℕ) {w : ℕ} → w ≡ get_or bitmap at 0 → PartOf bitmap (32 * at) w
@@ -54,5 +54,5 @@ window-part words first number base low high w there lp hp lows highs P B over p
     ⊎_elim (λ l. lows p l ∙ lp P own past p l) (λ g. highs p g ∙ hp P own past (p - 32) (omega arith) ∙ ap P (omega arith)) (cmp p 32)
 
 -- ---- the record, with an answer stored
-pub range-answered : (ix : Index) (R : List ℕ) (r : NumericRange) (s : State) (bits next : ℕ) → RangeIs ix R r s → RangeIs ix R r (answered s bits next)
+pub range-answered : (ix : Index) (R : List ℕ) (r : NumericRange) (s : State) (bits next : ℕ) → RangeIs ix R r s → RangeIs ix R r (run_answered s bits next)
 range-answered ix R r s bits next p = record { kind-is = p.kind-is; size_is = p.size_is; number_is = p.number_is; there = p.there; bits = p.bits }

@@ -10,16 +10,16 @@ use Rattle.meaning.proofs.Below.{any_none, none_below}
 use Rattle.meaning.proofs.Tests.{decided, cmp}
 use Rattle.index.specs.Accepted.{Accepted}
 use Rattle.index.proofs.PostingAt.{posting-at, posting-none}
-use Rattle.weight.specs.ScorerTree.{Scoring, constant, weighted}
-use Rattle.weight.specs.State.{State, words_of}
-use Rattle.weight.specs.Held.{TermIs, ScoringIs}
+use Rattle.tree_weight.specs.ScorerTree.{Scoring, constant, weighted}
+use Rattle.tree_weight.specs.State.{State, words_of}
+use Rattle.tree_weight.specs.Held.{TermIs, ScoringIs}
 use Rattle.run.specs.Run.{document_at, Lower}
 use Rattle.bits.specs.Bit.{bit}
 use Rattle.bits.proofs.Laws.{halves-joined}
-use Rattle.leaf_scorer.specs.Search.{SearchHeld}
+use Rattle.scorer_leaf.specs.Search.{SearchHeld}
 use Rattle.window.specs.Windows.{in_run, Cursor, Gathers}
 use Rattle.window_words.specs.Windowed.{window_bits, TermWindow}
-use Rattle.window_leaf.specs.Runs.{window_at, PutPost, RunMoved, RunPost}
+use Rattle.window_leaf.specs.Runs.{window_at, PutPost, RunMoved, RunBitsPost}
 
 -- ---- what a record stores
 -- the bits are joined again
@@ -42,7 +42,7 @@ pub next-is : {words : List ℕ} {stride first count at next : ℕ} (d : Option 
 next-is None m e = record { there = λ l. absurd (omega arith); ended = λ l. e }
 next-is (Some x) m e = record { there = λ l. e ∙ m.1; ended = λ l. absurd (omega (arith, m.0)) }
 
-module _ (words : List ℕ) (stride base : ℕ) (s : State) (w : List ℕ) (st : List ℕ) (h : SearchHeld words stride s w st base) where
+module _ (words : List ℕ) (stride base : ℕ) (s : State) (w : List ℕ) (states : List ℕ) (h : SearchHeld words stride s w states base) where
   -- where the search came to, the cursor stands at the window's first document
   pub lower-cursor : (u from : ℕ) → u ≡ s.cursor → Lower words stride s.first s.number u base from → Cursor words stride s.first s.number base from
   lower-cursor u from e l =
@@ -70,8 +70,8 @@ module _ (words : List ℕ) (stride base : ℕ) (s : State) (w : List ℕ) (st :
     next-top : next ≤ no_more_docs
     next-top = ⊎_elim (λ (l : at < s.number). omega (arith, d.there l, h.small at l)) (λ l. omega (arith, d.ended l)) (cmp at s.number)
 
-    pub run-moved : (st' : List ℕ) → st' ≡ words_of (window_at s at from r next) ++ w → RunMoved words stride s w base r st'
-    run-moved st' e =
+    pub run-moved : (states' : List ℕ) → states' ≡ words_of (window_at s at from r next) ++ w → RunMoved words stride s w base r states'
+    run-moved states' e =
         record {
           first = from;
           cursor = at;
@@ -86,28 +86,28 @@ module _ (words : List ℕ) (stride base : ℕ) (s : State) (w : List ℕ) (st :
         }
 
 -- `put`: the bits' halves and the document are stored
-pub put-answer : (st : List ℕ) (r next low high : ℕ) → low ≡ r % 4294967296 → high ≡ r / 4294967296 → PutPost st r next (set (set (set st 20 low) 21 high) 22 next)
-put-answer st r next low high el eh s w e = rw (el, eh, e)
+pub put-answer : (states : List ℕ) (r next low high : ℕ) → low ≡ r % 4294967296 → high ≡ r / 4294967296 → PutPost states r next (set (set (set states 20 low) 21 high) 22 next)
+put-answer states r next low high el eh s w e = rw (el, eh, e)
 
 -- the record with its cursor behind the window and the run's first place in it, its answer not stored yet
 abbrev pub placed : State → ℕ → ℕ → State
 placed s cursor first = record s { cursor = cursor; window_first = first }
 
 -- `run_bits`: what it stores before the answer, and what it gives
-module _ (words : List ℕ) (stride base : ℕ) (st : List ℕ) (from at : ℕ) where
-  pub placed-words : (s : State) (w : List ℕ) → st ≡ words_of s ++ w → set (set st 8 at) 19 from ≡ words_of (placed s at from) ++ w
+module _ (words : List ℕ) (stride base : ℕ) (states : List ℕ) (from at : ℕ) where
+  pub placed-words : (s : State) (w : List ℕ) → states ≡ words_of s ++ w → set (set states 8 at) 19 from ≡ words_of (placed s at from) ++ w
   placed-words s w e = rw e
 
-  pub run-answer : (r next : ℕ) (st' : List ℕ) → Lower words stride (get_or st 6 0) (get_or st 7 0) (get_or st 8 0) base from → Gathers words stride (get_or st 6 0) (get_or st 7 0) base from r at → NextIs words stride (get_or st 6 0) (get_or st 7 0) at next → PutPost (set (set st 8 at) 19 from) r next st' → RunPost words stride st base r st'
-  run-answer r next st' l g d post s w h =
-      let first : get_or st 6 0 ≡ s.first = rw h.words_are in
-      let number : get_or st 7 0 ≡ s.number = rw h.words_are in
-      let cursor : get_or st 8 0 ≡ s.cursor = rw h.words_are in
-      run-moved words stride base s w st h from at r next
-      (lower-cursor words stride base s w st h (get_or st 8 0) from cursor (rw (first, number) at l))
+  pub run-answer : (r next : ℕ) (states' : List ℕ) → Lower words stride (get_or states 6 0) (get_or states 7 0) (get_or states 8 0) base from → Gathers words stride (get_or states 6 0) (get_or states 7 0) base from r at → NextIs words stride (get_or states 6 0) (get_or states 7 0) at next → PutPost (set (set states 8 at) 19 from) r next states' → RunBitsPost words stride states base r states'
+  run-answer r next states' l g d post s w h =
+      let first : get_or states 6 0 ≡ s.first = rw h.words_are in
+      let number : get_or states 7 0 ≡ s.number = rw h.words_are in
+      let cursor : get_or states 8 0 ≡ s.cursor = rw h.words_are in
+      run-moved words stride base s w states h from at r next
+      (lower-cursor words stride base s w states h (get_or states 8 0) from cursor (rw (first, number) at l))
       (rw (first, number) at g)
       (rw (first, number) at d)
-      st'
+      states'
       (post (placed s at from) w (placed-words s w h.words_are))
 
 -- a run that is the documents of P
@@ -134,7 +134,7 @@ module _ (ix : Index) (acc : Accepted ix) (k l : ℕ) (there : l < leaf_count ix
       (λ x g. ap found (posting-none ix l x g))
       d
 
-  module _ (w : List ℕ) (r : ℕ) (st' : List ℕ) (m : RunMoved ix.postings 3 s w base r st') where
+  module _ (w : List ℕ) (r : ℕ) (states' : List ℕ) (m : RunMoved ix.postings 3 s w base r states') where
     pub term-passed : TermIs ix k l (window_at s m.cursor m.first r m.next) (base + 64)
     term-passed =
         record {

@@ -1,4 +1,5 @@
 -- The terms of a phrase, asked in turn for a window, and their postings at a place of it. Assumes nothing.
+use Rattle.std.proofs.lemmas.Bool.{and_parts}
 use Rattle.std.proofs.Common.{◌≡◌, refl, sym, ap, ap₂, subst, ◌∙◌, Bool, true, false, ◌&&◌, ⊎_elim, List, [], ◌∷◌, ◌++◌, ℕ, ◌+◌, ◌-◌, ◌*◌, ◌≤◌, ◌<◌, max, length, get_or, take, drop, append_assoc, length-append, arith}
 use mathlib.Core.Bool.{and-true, and_assoc, false≢true}
 use lib.Seq.{get_or-append-add}
@@ -9,19 +10,19 @@ use Rattle.meaning.specs.Lent.{Index, leaf_count, leaf_document}
 use Rattle.meaning.specs.Postings.{posting_at, found}
 use Rattle.meaning.specs.Phrase.{PhraseTerm}
 use Rattle.index.specs.Accepted.{Accepted}
-use Rattle.weight.specs.State.{State, words_of}
-use Rattle.weight.specs.Held.{TermIs}
-use Rattle.leaf_scorer.specs.Search.{SearchHeld}
-use Rattle.leaf_scorer.specs.Phrases.{all_found, LeavesThere, PostingsAt}
-use Rattle.leaf_scorer.proofs.Bounds.{term-mono}
-use Rattle.leaf_scorer.proofs.LeafLaws.{term-run}
-use Rattle.leaf_scorer.proofs.PhraseLaws.{record-fits, record-part, record-back, found-miss, found-rest}
+use Rattle.tree_weight.specs.State.{State, words_of}
+use Rattle.tree_weight.specs.Held.{TermIs}
+use Rattle.scorer_leaf.specs.Search.{SearchHeld}
+use Rattle.scorer_leaf.specs.Phrases.{all_found, LeavesThere, PostingsAt}
+use Rattle.tree_weight.proofs.Terms.{term-mono}
+use Rattle.scorer_leaf.proofs.LeafLaws.{term-run}
+use Rattle.scorer_leaf.proofs.PhraseLaws.{record-fits, record-part, record-back, found-miss, found-rest}
 use Rattle.bits.specs.Bit.{bit}
 use Rattle.bits.proofs.Laws.{bit-zero}
 use Rattle.window.proofs.Rank.{posting-of-bit}
-use Rattle.window_words.specs.Windowed.{Places, nowhere, places_of, joined, window_bits, TermWindow, TermsWindowed}
+use Rattle.window_words.specs.Windowed.{Places, nowhere, places_of, two_words, window_bits, TermWindow, TermsWindowed}
 use Rattle.window_leaf.specs.Asks.{Answers}
-use Rattle.window_leaf.specs.Runs.{window_at, RunPost}
+use Rattle.window_leaf.specs.Runs.{window_at, RunBitsPost}
 use Rattle.window_leaf.proofs.Records.{term-run-like, term-passed, term-window}
 use Rattle.window_leaf.specs.Phrases.{rank_at}
 
@@ -49,10 +50,6 @@ terms-less ix (t ∷ ts) w b e base D D' h f p =
 -- a word of a record that begins at a place
 read-there : (x y : List ℕ) (at k : ℕ) → at ≡ length x → get_or (x ++ y) (at + k) 0 ≡ get_or y k 0
 read-there x y at k e = rw (e, get_or-append-add)
-
-and-left : (a b : Bool) → (a && b) ≡ true → a ≡ true
-and-left true b e = refl
-and-left false b e = e
 
 -- .. that was put there
 word-there : (terms x ys y w : List ℕ) (at k : ℕ) → at ≡ length x → terms ≡ x ++ (ys ++ w) → ys ≡ y → get_or terms (at + k) 0 ≡ get_or (y ++ w) k 0
@@ -120,7 +117,7 @@ module _ {postings : List ℕ} {ix : Index} {ts : List PhraseTerm} {base want : 
               )
 
       -- the term was asked: r are its documents, and w' those wanted that are left
-      pub asking-took : (r w' next' : ℕ) (ys : List ℕ) → RunPost postings 3 (take (e - at) (drop at terms)) base r ys → ((p : ℕ) → bit p w' ≡ (bit p w && bit p r)) → next' ≡ max next (get_or (take at terms ++ (ys ++ drop (e - at) (drop at terms))) (at + 22) 0) → Asking postings ix ts base want (take at terms ++ (ys ++ drop (e - at) (drop at terms))) w' next' e
+      pub asking-took : (r w' next' : ℕ) (ys : List ℕ) → RunBitsPost postings 3 (take (e - at) (drop at terms)) base r ys → ((p : ℕ) → bit p w' ≡ (bit p w && bit p r)) → next' ≡ max next (get_or (take at terms ++ (ys ++ drop (e - at) (drop at terms))) (at + 22) 0) → Asking postings ix ts base want (take at terms ++ (ys ++ drop (e - at) (drop at terms))) w' next' e
       unfolding TermsWindowed LeavesThere all_found
       asking-took r w' next' ys post both after = go q.left q.rest q.there q.bits q.fails q.back
         where
@@ -131,10 +128,10 @@ module _ {postings : List ℕ} {ix : Index} {ts : List PhraseTerm} {base want : 
           go [] h k b f s = absurd (omega (arith, ap length q.is, length-append q.x q.z, ap length h, q.place))
           go (t ∷ g) h k b f s =
               let is = q.is ∙ ap (λ (y : List ℕ). q.x ++ y) h.2 in
-              let st = take (e - at) (drop at terms) in
-              let part : st ≡ words_of h.0 = record-part terms q.x h.1 h.0 at e is q.place stop in
-              let own : RunPost ix.postings 3 st base r ys = subst (λ (y : List ℕ). RunPost y 3 st base r ys) (sym q.postings-are) post in
-              let m = own h.0 [] (term-run ix q.accepted 9 t.leaf k.0 h.0 base h.3 [] st part) in
+              let states = take (e - at) (drop at terms) in
+              let part : states ≡ words_of h.0 = record-part terms q.x h.1 h.0 at e is q.place stop in
+              let own : RunBitsPost ix.postings 3 states base r ys = subst (λ (y : List ℕ). RunBitsPost y 3 states base r ys) (sym q.postings-are) post in
+              let m = own h.0 [] (term-run ix q.accepted 9 t.leaf k.0 h.0 base h.3 [] states part) in
               let s' = window_at h.0 m.cursor m.first r m.next in
               let like = term-run-like ix q.accepted 9 t.leaf k.0 h.0 base h.3 in
               let here : ys ≡ words_of s' = m.words_are in
@@ -155,27 +152,23 @@ module _ {postings : List ℕ} {ix : Index} {ts : List PhraseTerm} {base want : 
                 gap = λ d i j. ⊎_elim (λ c. q.gap d i c) (λ c. f d (found-miss ix t g d (sym (like d) ∙ m.gap d i (omega (arith, last))))) (cmp d next);
                 top = omega (arith, last, q.top, m.top);
                 fails = λ d c. f d (found-rest ix t g d c);
-                back = λ D fewer z' j. rw append_assoc (s D (λ p i c. and-left (bit p w) (bit p r) (sym (both p) ∙ fewer p i c)) (ys ++ z') (s', z', same-front ys (words_of s') z' here, term-passed ix q.accepted 9 t.leaf k.0 h.0 base h.3 [] r ys m, h.4, (λ p i c. term-window ix q.accepted 9 t.leaf k.0 h.0 base h.3 [] r ys m), j));
+                back = λ D fewer z' j. rw append_assoc (s D (λ p i c. (and_parts (bit p w) (bit p r) (sym (both p) ∙ fewer p i c)).0) (ys ++ z') (s', z', same-front ys (words_of s') z' here, term-passed ix q.accepted 9 t.leaf k.0 h.0 base h.3 [] r ys m, h.4, (λ p i c. term-window ix q.accepted 9 t.leaf k.0 h.0 base h.3 [] r ys m), j));
               }
 
 -- ---- the postings at a place that all terms have
-and-both : (a b : Bool) → (a && b) ≡ true → (a ≡ true) × (b ≡ true)
-and-both true b e = (refl, e)
-and-both false b e = absurd (false≢true e)
-
 module _ (ix : Index) (acc : Accepted ix) (bound base place : ℕ) (low : place < 64) (D : Places) (on : D place ≡ true) (terms : List ℕ) (P : ℕ → ℕ → Type 0) (read : (at p : ℕ) → P at p → p ≡ 3 * (get_or terms (at + 6) 0 + get_or terms (at + 19) 0 + rank_at terms at place)) where
   pub asked_terms : (ts : List PhraseTerm) (x z : List ℕ) → terms ≡ x ++ z → TermsWindowed ix ts z bound base D → LeavesThere ix ts → all_found ix ts (base + place) ≡ true → PostingsAt ix ts terms (length x) (base + place) P
   unfolding TermsWindowed LeavesThere all_found PostingsAt
   asked_terms [] x z is r h f = omega (arith, ap length is, length-append x z, ap length r)
   asked_terms (t ∷ ts) x z is r h f =
-      let both = and-both (found (posting_at ix t.leaf (base + place))) (all_found ix ts (base + place)) f in
+      let both = and_parts (found (posting_at ix t.leaf (base + place))) (all_found ix ts (base + place)) f in
       let whole : terms ≡ x ++ (words_of r.0 ++ r.1) = is ∙ ap (λ (y : List ℕ). x ++ y) r.2 in
       let word : (k : ℕ) → get_or terms (length x + k) 0 ≡ get_or (words_of r.0 ++ r.1) k 0 = λ k. ap (λ (y : List ℕ). get_or y (length x + k) 0) whole ∙ read-there x (words_of r.0 ++ r.1) (length x) k refl in
       let first : get_or terms (length x + 6) 0 ≡ r.0.first = word 6 in
       let window-first : get_or terms (length x + 19) 0 ≡ r.0.window_first = word 19 in
       let twenty : get_or terms (length x + 20) 0 ≡ r.0.window_low = word 20 in
       let twenty-one : get_or terms (length x + 21) 0 ≡ r.0.window_high = word 21 in
-      let rank : rank_at terms (length x) place ≡ count_below place (λ q. bit q (window_bits r.0)) = ap₂ (λ (a b : ℕ). count_below place (λ k. bit k (joined a b))) twenty twenty-one in
+      let rank : rank_at terms (length x) place ≡ count_below place (λ q. bit q (window_bits r.0)) = ap₂ (λ (a b : ℕ). count_below place (λ k. bit k (two_words a b))) twenty twenty-one in
       let asked = r.5 place low on in
       let posting = term-posting ix acc 9 t.leaf h.0 r.0 bound r.3 base asked place low both.0 in
       let end : length (x ++ words_of r.0) ≡ length x + node_state_words = length-append x (words_of r.0) in (

@@ -3,15 +3,19 @@
 
 ghost use Rattle.std.specs.Prelude.{◌≡◌, ◌+◌, ◌*◌, ◌≤◌, length, get_or};
 ghost use Rattle.meaning.specs.Limits.{no_more_docs, node_state_words};
-ghost use Rattle.leaf_scorer.specs.Calls.{lent_of};
-ghost use Rattle.leaf_scorer.specs.Buffers.{room, other_room, SameBuffers};
-ghost use Rattle.window_leaf.specs.Asks.{TermPre, TermPost, RangePre, RangePost, BitsPre, BitsPost};
-ghost use Rattle.window_leaf.specs.Runs.{PutPre, PutPost, RunPre, RunPost, PartOf};
+ghost use Rattle.tree_weight.specs.declared.layout.TheConstants.{KIND};
+ghost use Rattle.scorer_leaf.specs.Calls.{lists_of};
+ghost use Rattle.scorer_leaf.specs.Buffers.{room, other_room, SameBuffers};
+ghost use Rattle.window_leaf.specs.Asks.{TermBitsPre, TermBitsPost, RangeBitsPre, RangeBitsPost, BitsPre, BitsPost};
+ghost use Rattle.window_leaf.specs.Runs.{PutPre, PutPost, RunBitsPre, RunBitsPost, PartOf};
 
-use index::postings::POSTING;
-use leaf_scorer::{LeafReader, NO_MORE_DOCS, PhraseBuffers};
-use node::NodeKind;
+use index::postings::POSTING_WORDS;
 use run::Postings;
+use scorer_leaf::{LeafReader, NO_MORE_DOCS, PhraseBuffers};
+use tree_node::NodeKind;
+use tree_weight::layout::{
+    CURSOR, FIRST, KIND, NUMBER, WINDOW_FIRST, WINDOW_HIGH, WINDOW_LOW, WINDOW_NEXT,
+};
 use window::gathered;
 
 pub mod phrases;
@@ -34,7 +38,7 @@ impl Window<'_> {
     }
 }
 
-// What some nodes answer together: bits, and a document before which nothing follows.
+// The matches in the window as bits, and a document before which none follows behind the window.
 #[derive(Clone, Copy)]
 pub struct Found {
     pub bits: u64,
@@ -42,41 +46,41 @@ pub struct Found {
 }
 
 // Stores an answer in the node's record.
-pub fn put(st: &mut [u32], bits: u64, next: u32)
-    requires { PutPre st.old }
-    ensures { PutPost st.old bits next st.new }
+pub fn put(states: &mut [u32], bits: u64, next: u32)
+    requires { PutPre states.old }
+    ensures { PutPost states.old bits next states.new }
 {
-    st[20] = bits::low(bits);
-    st[21] = bits::high(bits);
-    st[22] = next;
+    states[WINDOW_LOW] = bits::low(bits);
+    states[WINDOW_HIGH] = bits::high(bits);
+    states[WINDOW_NEXT] = next;
 }
 
-// Moves a record's cursor over the window; gives its documents there.
-pub fn run_bits(st: &mut [u32], words: &[u32], stride: usize, base: u32) -> u64
-    requires { RunPre words.now stride st.old base }
-    ensures { RunPost words.now stride st.old base result st.new }
+// The documents of a record's run in the window; its cursor is moved behind them.
+pub fn run_bits(states: &mut [u32], words: &[u32], stride: usize, base: u32) -> u64
+    requires { RunBitsPre words.now stride states.old base }
+    ensures { RunBitsPost words.now stride states.old base result states.new }
 {
     let postings = Postings {
         words,
         stride,
-        first: st[6] as usize,
-        count: st[7] as usize,
+        first: states[FIRST] as usize,
+        count: states[NUMBER] as usize,
     };
-    let from = postings.lower(st[8] as usize, base);
+    let from = postings.lower(states[CURSOR] as usize, base);
     let g = gathered(postings, from, base);
-    st[8] = g.at as u32;
-    st[19] = from as u32;
+    states[CURSOR] = g.at as u32;
+    states[WINDOW_FIRST] = from as u32;
     let next = postings.get(g.at).unwrap_or(NO_MORE_DOCS);
-    put(st, g.bits, next);
+    put(states, g.bits, next);
     g.bits
 }
 
-// A term's documents in the window, wanted or not.
-pub fn term_bits(st: &mut [u32], postings: &[u32], base: u32) -> u64
-    requires { TermPre postings.now st.old base }
-    ensures { TermPost postings.now st.old base result st.new }
+// A term's documents in the window, whether wanted or not.
+pub fn term_bits(states: &mut [u32], postings: &[u32], base: u32) -> u64
+    requires { TermBitsPre postings.now states.old base }
+    ensures { TermBitsPost postings.now states.old base result states.new }
 {
-    run_bits(st, postings, POSTING, base)
+    run_bits(states, postings, POSTING_WORDS, base)
 }
 
 // A word of a bitmap; behind its last word there are no bits.
@@ -100,46 +104,48 @@ fn bits_from(bitmap: &[u32], at: u32) -> u32
     bits::low(bits::joined(low, high) >> skip)
 }
 
-// A range's documents in the window, wanted or not.
-pub fn range_bits(st: &mut [u32], ranges: &[u32], base: u32) -> u64
-    requires { RangePre ranges.now st.old base }
-    ensures { RangePost ranges.now st.old base result st.new }
+// A range's documents in the window, whether wanted or not.
+pub fn range_bits(states: &mut [u32], ranges: &[u32], base: u32) -> u64
+    requires { RangeBitsPre ranges.now states.old base }
+    ensures { RangeBitsPost ranges.now states.old base result states.new }
 {
-    let first = st[6] as usize;
-    let end = first + st[7] as usize;
+    let first = states[FIRST] as usize;
+    let end = first + states[NUMBER] as usize;
     let bitmap = &ranges[first..end];
     let low = bits_from(bitmap, base);
     let high = bits_from(bitmap, base + 32);
     let bits = bits::joined(low, high);
-    put(st, bits, base + 64);
+    put(states, bits, base + 64);
     bits
 }
 
 // The wanted documents of the window that a node without children matches.
-// Kept: no plainer as one struct of the two, here and below: of them only `buffers` is lent for writing; with the window in it, each clause would
-// also say that it stays.
+// Kept: no plainer as one struct of the two, here and below: of them only `buffers` is lent for writing; with the
+// window in it, each clause would also say that it stays.
 pub fn leaf_bits(
-    st: &mut [u32],
+    states: &mut [u32],
     window: &Window<'_>,
     buffers: &mut PhraseBuffers<'_>,
     want: u64,
     depth: u32,
 ) -> u64
-    requires kind { get_or st.old 0 0 ≡ 3 → ⊥ }
-    requires bits_pre { BitsPre (lent_of window.now.reader) (room buffers.old) (other_room buffers.old) st.old window.now.base want depth }
-    ensures bits_post { BitsPost (lent_of window.now.reader) (room buffers.old) (other_room buffers.old) st.old window.now.base want depth result st.new }
+    requires kind { get_or states.old KIND 0 ≡ 3 → ⊥ }
+    requires bits_pre { BitsPre (lists_of window.now.reader) (room buffers.old)
+        (other_room buffers.old) states.old window.now.base want depth }
+    ensures bits_post { BitsPost (lists_of window.now.reader) (room buffers.old)
+        (other_room buffers.old) states.old window.now.base want depth result states.new }
     ensures same_buffers { SameBuffers buffers.old buffers.new }
 {
-    match NodeKind::from(st[0]) {
-        NodeKind::Term => bits::both(want, term_bits(st, window.reader.postings, window.base)),
-        NodeKind::Phrase => phrases::phrase_bits(st, window, buffers, want),
-        NodeKind::Range => bits::both(want, range_bits(st, window.reader.ranges, window.base)),
+    match NodeKind::from(states[KIND]) {
+        NodeKind::Term => bits::both(want, term_bits(states, window.reader.postings, window.base)),
+        NodeKind::Phrase => phrases::phrase_bits(states, window, buffers, want),
+        NodeKind::Range => bits::both(want, range_bits(states, window.reader.ranges, window.base)),
         NodeKind::Everything => {
-            put(st, want, window.end());
+            put(states, want, window.end());
             want
         }
         _ => {
-            put(st, 0, NO_MORE_DOCS);
+            put(states, 0, NO_MORE_DOCS);
             0
         }
     }

@@ -1,19 +1,25 @@
-// A phrase in a window: the documents that all its terms have, and then its positions in those alone.
+// A phrase in a window: first the documents that all its terms have, then the positions in those alone.
 ghost use Rattle.std.specs.Prelude.{◌≡◌, ◌+◌, ◌*◌, ◌<◌, ◌≤◌, length, get_or};
 ghost use Rattle.meaning.specs.Limits.{node_state_words};
-ghost use Rattle.leaf_scorer.specs.Buffers.{room, other_room, SameBuffers};
-ghost use Rattle.window_leaf.specs.Asks.{PhrasePre, PhrasePost};
-ghost use Rattle.window_leaf.specs.Phrases.{TermsPre, TermsPost, rank_at, PostingPre, FrequencyPre, FrequencyPost, Noted, PlanesPre, PlanesPost, PlanesRead, PlanesPut};
+ghost use Rattle.index.specs.declared.postings.TheConstants.{POSTING_WORDS};
+ghost use Rattle.tree_weight.specs.declared.layout.TheConstants.{FIRST, WINDOW_FIRST};
+ghost use Rattle.scorer_leaf.specs.Buffers.{room, other_room, SameBuffers};
+ghost use Rattle.window_leaf.specs.Asks.{PhraseBitsPre, PhraseBitsPost};
+ghost use Rattle.window_leaf.specs.Phrases.{TermsBitsPre, TermsPost, rank_at, PostingPre, FrequencyAtPre, FrequencyAtPost, Noted, PlanesPre, PlanesPost, PlanesRead, PlanesPut};
 
 use crate::{Found, Window, put, run_bits};
 use bits::SetBits;
-use index::postings::POSTING;
-use leaf_scorer::{PhraseBuffers, frequency_by};
-use weight::NODE_STATE_WORDS;
+use index::postings::POSTING_WORDS;
+use scorer_leaf::{PhraseBuffers, frequency_by};
+use tree_weight::NODE_STATE_WORDS;
+use tree_weight::layout::{
+    FIRST, ONES_HIGH, ONES_LOW, TWOS_HIGH, TWOS_LOW, WINDOW_FIRST, WINDOW_HIGH, WINDOW_LOW,
+    WINDOW_NEXT,
+};
 
 // The wanted documents that all terms have. A term is asked only where those before it left some.
 pub fn terms_bits(terms: &mut [u32], postings: &[u32], base: u32, want: u64) -> Found
-    requires { TermsPre postings.now terms.old base }
+    requires { TermsBitsPre postings.now terms.old base }
     ensures { TermsPost postings.now terms.old base want result.bits result.next terms.new }
 {
     let mut w = want;
@@ -23,33 +29,40 @@ pub fn terms_bits(terms: &mut [u32], postings: &[u32], base: u32, want: u64) -> 
             return Found { bits: w, next };
         }
         let end = at + NODE_STATE_WORDS;
-        w = bits::both(w, run_bits(&mut terms[at..end], postings, POSTING, base));
-        next = next.max(terms[at + 22]);
+        w = bits::both(
+            w,
+            run_bits(&mut terms[at..end], postings, POSTING_WORDS, base),
+        );
+        next = next.max(terms[at + WINDOW_NEXT]);
     }
     Found { bits: w, next }
 }
 
-// The word of a term's posting at a place of the window: as many postings of the window stand before it as bits below it.
+// The place of a term's posting of a document of the window: as many postings of it come before as bits lie below.
 fn posting_at(terms: &[u32], at: usize, place: u32) -> usize
     requires { PostingPre terms.now at place }
-    ensures { result ≡ 3 * (get_or terms.now (at + 6) 0 + get_or terms.now (at + 19) 0 + rank_at terms.now at place) }
+    ensures { result ≡ POSTING_WORDS * (get_or terms.now (at + FIRST) 0
+        + get_or terms.now (at + WINDOW_FIRST) 0 + rank_at terms.now at place) }
 {
-    let bits = bits::joined(terms[at + 20], terms[at + 21]);
+    let bits = bits::joined(terms[at + WINDOW_LOW], terms[at + WINDOW_HIGH]);
     let before = bits::rank(bits, place);
-    POSTING * (terms[at + 6] as usize + terms[at + 19] as usize + before as usize)
+    POSTING_WORDS
+        * (terms[at + FIRST] as usize + terms[at + WINDOW_FIRST] as usize + before as usize)
 }
 
 // The frequency of a phrase at a place that all its terms have.
-// Kept: no plainer as one struct of the two, here and below: of them only `buffers` is lent for writing; with the window in it, each clause would
-// also say that it stays.
+// Kept: no plainer as one struct of the two, here and below: of them only `buffers` is lent for writing; with the
+// window in it, each clause would also say that it stays.
 pub fn frequency_at(
     terms: &[u32],
     window: &Window<'_>,
     buffers: &mut PhraseBuffers<'_>,
     place: u32,
 ) -> u32
-    requires { FrequencyPre window.now.reader.postings.now window.now.reader.positions.now terms.now (room buffers.old) (other_room buffers.old) window.now.base place }
-    ensures frequency_post { FrequencyPost window.now.reader.postings.now window.now.reader.positions.now terms.now window.now.base place result }
+    requires { FrequencyAtPre window.now.reader.postings.now window.now.reader.positions.now terms.now
+        (room buffers.old) (other_room buffers.old) window.now.base place }
+    ensures frequency_post { FrequencyAtPost window.now.reader.postings.now
+        window.now.reader.positions.now terms.now window.now.base place result }
     ensures same_buffers { SameBuffers buffers.old buffers.new }
 {
     frequency_by(
@@ -69,29 +82,29 @@ pub struct Planes {
 
 impl Planes {
     // Those of a phrase's record.
-    pub fn at(st: &[u32]) -> Planes
-        requires { node_state_words ≤ length st.now }
-        ensures { PlanesRead st.now result.ones result.twos }
+    pub fn at(states: &[u32]) -> Planes
+        requires { node_state_words ≤ length states.now }
+        ensures { PlanesRead states.now result.ones result.twos }
     {
         Planes {
-            ones: bits::joined(st[23], st[24]),
-            twos: bits::joined(st[25], st[26]),
+            ones: bits::joined(states[ONES_LOW], states[ONES_HIGH]),
+            twos: bits::joined(states[TWOS_LOW], states[TWOS_HIGH]),
         }
     }
 
     // Stores them in a phrase's record.
-    fn put(self, st: &mut [u32])
-        requires { node_state_words ≤ length st.old }
-        ensures { PlanesPut st.old self.ones self.twos st.new }
+    fn put(self, states: &mut [u32])
+        requires { node_state_words ≤ length states.old }
+        ensures { PlanesPut states.old self.ones self.twos states.new }
     {
-        st[23] = bits::low(self.ones);
-        st[24] = bits::high(self.ones);
-        st[25] = bits::low(self.twos);
-        st[26] = bits::high(self.twos);
+        states[ONES_LOW] = bits::low(self.ones);
+        states[ONES_HIGH] = bits::high(self.ones);
+        states[TWOS_LOW] = bits::low(self.twos);
+        states[TWOS_HIGH] = bits::high(self.twos);
     }
 }
 
-// One more frequency in the planes.
+// Notes the frequency at a place in the two planes, as 3 where it is more.
 fn noted(planes: Planes, place: u32, frequency: u32) -> Planes
     requires { place < 64 }
     ensures { Noted planes.ones planes.twos place frequency result.ones result.twos }
@@ -120,8 +133,10 @@ fn planes_of(
     buffers: &mut PhraseBuffers<'_>,
     candidates: u64,
 ) -> Planes
-    requires { PlanesPre window.now.reader.postings.now window.now.reader.positions.now terms.now (room buffers.old) (other_room buffers.old) window.now.base candidates }
-    ensures planes_post { PlanesPost window.now.reader.postings.now window.now.reader.positions.now terms.now window.now.base candidates result.ones result.twos }
+    requires { PlanesPre window.now.reader.postings.now window.now.reader.positions.now terms.now
+        (room buffers.old) (other_room buffers.old) window.now.base candidates }
+    ensures planes_post { PlanesPost window.now.reader.postings.now window.now.reader.positions.now
+        terms.now window.now.base candidates result.ones result.twos }
     ensures same_buffers { SameBuffers buffers.old buffers.new }
 {
     let mut planes = Planes { ones: 0, twos: 0 };
@@ -134,24 +149,26 @@ fn planes_of(
 
 // The wanted documents where the phrase stands; their frequencies are stored as planes.
 pub fn phrase_bits(
-    st: &mut [u32],
+    states: &mut [u32],
     window: &Window<'_>,
     buffers: &mut PhraseBuffers<'_>,
     want: u64,
 ) -> u64
-    requires { PhrasePre window.now.reader.postings.now window.now.reader.positions.now (room buffers.old) (other_room buffers.old) st.old window.now.base }
-    ensures phrase_post { PhrasePost window.now.reader.postings.now window.now.reader.positions.now st.old window.now.base want result st.new }
+    requires { PhraseBitsPre window.now.reader.postings.now window.now.reader.positions.now
+        (room buffers.old) (other_room buffers.old) states.old window.now.base }
+    ensures phrase_post { PhraseBitsPost window.now.reader.postings.now window.now.reader.positions.now
+        states.old window.now.base want result states.new }
     ensures same_buffers { SameBuffers buffers.old buffers.new }
 {
     let t = terms_bits(
-        &mut st[NODE_STATE_WORDS..],
+        &mut states[NODE_STATE_WORDS..],
         window.reader.postings,
         window.base,
         want,
     );
-    let planes = planes_of(&st[NODE_STATE_WORDS..], window, buffers, t.bits);
+    let planes = planes_of(&states[NODE_STATE_WORDS..], window, buffers, t.bits);
     let w = bits::either(planes.ones, planes.twos);
-    planes.put(st);
-    put(st, w, t.next);
+    planes.put(states);
+    put(states, w, t.next);
     w
 }

@@ -10,14 +10,14 @@ use lib.ListN.{length, get_or, set, length-set}
 use lib.Seq.{get_or-set_same, get_or-set_other}
 use lib.Ieee.{Float, nan, binary64, is_nan, add}
 use borrow.Author.Tests.{eq-eqb, ne_eqb}
-use Rattle.std.proofs.lemmas.Bool.{cases_eq}
+use Rattle.std.proofs.lemmas.Bool.{cases_eq, and_parts}
 use Rattle.meaning.specs.Ieee754.{narrow}
 use Rattle.ieee754.specs.Nonneg.{AtMost}
 use Rattle.ieee754.proofs.Bounds.{atmost-number}
 use Rattle.meaning.proofs.Tests.{decided}
 use Rattle.bits.specs.Bit.{bit, LowestBit}
 use Rattle.bits.proofs.Laws.{bit-zero}
-use Rattle.leaf_score.proofs.Bounds.{scores-add, scores-narrow, scores-more}
+use Rattle.score_leaf.proofs.Bounds.{scores-add, scores-narrow, scores-more}
 use Rattle.window_score.specs.Sums.{Sums, At, Reached, uncalled, called, Answered, Changed, Added}
 
 -- what each call keeps holds of whatever the function has become
@@ -44,10 +44,6 @@ pub record Changing (post : Float → ℕ → Float → Type 0) (want left : ℕ
   pub done : (p : ℕ) → p < 64 → bit p want ≡ true → bit p left ≡ false → post (get_or sums p nan) p (get_or sums' p nan)
   pub others : (p : ℕ) → bit p want ≡ false → get_or sums' p nan ≡ get_or sums p nan
 
-both : (a b : Bool) → a && b ≡ true → (a ≡ true) × (b ≡ true)
-both true b e = (refl, e)
-both false b e = absurd (false≢true e)
-
 module _ (post : Float → ℕ → Float → Type 0) (want : ℕ) (sums : List Float) where
   pub changing-start : length sums ≡ 64 → Changing post want want sums sums
   changing-start h = record { long = h; wants = λ p e. e; waits = λ p e. refl; done = λ p l e g. absurd (false≢true (sym g ∙ e)); others = λ p e. refl }
@@ -67,7 +63,7 @@ module _ (post : Float → ℕ → Float → Type 0) (want : ℕ) (sums : List F
       module _ (left' : ℕ) (rest : (q : ℕ) → bit q left' ≡ bit q left && not (eqb q t)) where
         was : (p : ℕ) → bit p left' ≡ true → (bit p left ≡ true) × (p ≡ t → ⊥)
         was p e =
-            let b = both (bit p left) (not (eqb p t)) (sym (rest p) ∙ e) in
+            let b = and_parts (bit p left) (not (eqb p t)) (sym (rest p) ∙ e) in
             (b.0, λ q. false≢true (sym (ap not (eq-eqb p t q)) ∙ b.1))
 
         -- the sum at the lowest place is changed
@@ -104,9 +100,6 @@ module _ (f : ℕ → Float → Float) (want : ℕ) (sums : List Float) where
   module _ (left : ℕ) (sums' : List Float) (A : Adding f want left sums sums') where
     pub adding-done : left ≡ 0 → At f want sums sums'
     adding-done z = let C = changing-done post want sums left sums' A z in record { wanted = C.wanted; others = C.others }
-
-    pub place-wanted : (t : ℕ) → LowestBit left t → bit t want ≡ true
-    place-wanted = change-wanted post want sums left sums' A
 
     pub sum-waits : (t : ℕ) → LowestBit left t → get_or sums' t nan ≡ get_or sums t nan
     sum-waits = change-waits post want sums left sums' A

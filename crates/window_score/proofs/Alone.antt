@@ -1,23 +1,17 @@
 -- A sum that began at 0 is the score itself, and narrowing it changes nothing. Assumes nothing.
-use Rattle.std.proofs.Common.{◌≡◌, ap, ◌∙◌, ℕ, ◌*◌, ◌^◌, ◌≤◌, T}
+use Rattle.std.proofs.Common.{◌≡◌, ap, ◌∙◌, ℕ, ◌*◌, ◌^◌, ◌≤◌}
 use Rattle.std.specs.Prelude.{Float}
-use Rattle.std.specs.Float.{binary32, binary64}
-use Rattle.std.specs.Float.Ieee.{add, fits}
-use lib.Ieee.Fits.{fits_widens}
+use Rattle.std.specs.Float.{binary64}
+use Rattle.std.specs.Float.Ieee.{add}
 use Rattle.meaning.specs.Lent.{Index}
 use Rattle.meaning.specs.Ieee754.{zero_float, narrow}
-use Rattle.ieee754.specs.Nonneg.{nonneg, AtMost}
-use Rattle.ieee754.proofs.Narrowing.{narrow_exact}
+use Rattle.ieee754.specs.Nonneg.{AtMost}
 use Rattle.index.specs.Accepted.{Accepted}
-use Rattle.weight.specs.ScorerTree.{Scorer, scorer_score}
-use Rattle.weight.specs.Sound.{Sound, nodes}
-use Rattle.weight.proofs.Weights.{Weighted}
-use Rattle.score.proofs.Alone.{zero-plus}
+use Rattle.tree_weight.specs.ScorerTree.{Scorer, scorer_score}
+use Rattle.tree_weight.specs.Sound.{Sound, nodes}
+use Rattle.tree_weight.proofs.Weights.{Weighted}
+use Rattle.score.proofs.Alone.{narrow-alone}
 use Rattle.score.proofs.Small.{score-small, score-fits}
-
--- a binary32 value that is not negative, as a sum of it alone, is narrow already
-pub narrow-alone : (x : Float) → T (fits binary32 x) → T (nonneg x) → narrow (add binary64 zero_float x) ≡ x
-narrow-alone x f p = ap narrow (zero-plus x (fits_widens x f) p) ∙ narrow_exact x f
 
 module _ (ix : Index) (A : Accepted ix) (places : ℕ) (s : Scorer) (w : Weighted s) (h : Sound ix places s) (few : nodes s ≤ 256) (d : ℕ) where
   pub small : AtMost (nodes s * 2 ^ 29) (scorer_score ix s d)

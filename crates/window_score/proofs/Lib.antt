@@ -1,4 +1,4 @@
--- The laws of this crate's loops and calls.
+-- The sums of a window: each leaf's and each loop's share, and the calls for a Boolean one after the other.
 pub mod Adding
 pub mod Terms
 pub mod Phrases

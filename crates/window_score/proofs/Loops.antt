@@ -9,15 +9,15 @@ use Rattle.meaning.specs.Lent.{Index}
 use Rattle.meaning.specs.Ieee754.{sum_from}
 use Rattle.bits.specs.Bit.{bit}
 use Rattle.bits.proofs.Laws.{bit-zero}
-use Rattle.weight.specs.ScorerTree.{Scorer, Scorers, end, more, matches, scorer_score}
-use Rattle.weight.specs.Sound.{Sounds, TablesOf, nodes, nodes_of}
-use Rattle.leaf_score.specs.Asked.{Scorable}
-use Rattle.leaf_score.proofs.Bounds.{scores-more}
+use Rattle.tree_weight.specs.ScorerTree.{Scorer, Scorers, end, more, matches, scorer_score}
+use Rattle.tree_weight.specs.Sound.{Sounds, TablesOf, nodes, nodes_of}
+use Rattle.score_leaf.specs.Asked.{Scorable}
+use Rattle.score_leaf.proofs.Bounds.{scores-more}
 use Rattle.score.proofs.Sums.{counted, Matched}
 use Rattle.window_words.specs.Windowed.{Places, nowhere, Windowed, AllWindowed}
 use Rattle.window_words.proofs.Laws.{kind_of, windowed-long, windowed-size, windowed-kind, windowed-scores}
 use Rattle.window_words.proofs.Parts.{Part, Asked, all-each, each-all, Zip, zip-start, zip-none, zip-end, view, word-at, word-first, part-held, zip-next}
-use Rattle.node.specs.Words.{ChildThere}
+use Rattle.tree_node.specs.Words.{ChildThere}
 use Rattle.window_score.specs.Sums.{Sums, At, Added}
 
 -- ---- sums

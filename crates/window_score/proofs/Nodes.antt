@@ -13,26 +13,26 @@ use Rattle.meaning.specs.Ieee754.{zero_float, narrowed_sum}
 use Rattle.ieee754.specs.Nonneg.{AtMost}
 use Rattle.ieee754.proofs.Bounds.{zero-atmost}
 use Rattle.bits.specs.Bit.{bit}
-use Rattle.weight.specs.ScorerTree.{nothing, term, phrase, range, everything, constant, weighted, Joining, Scorer, leaf, boolean, Scorers, matches, all_match, any_matches, matching, leaf_score, scorer_score, required_scores, optional_scores, joined_score}
-use Rattle.weight.specs.State.{words_of}
-use Rattle.weight.specs.Held.{FloatIs, ScoringIs, KeptIs}
-use Rattle.weight.specs.Sound.{Sound, Tables, nodes, nodes_of}
-use Rattle.leaf_score.proofs.Bounds.{scores-more, zero-32}
-use Rattle.leaf_score.proofs.Weights.{float_back, float-number}
-use Rattle.node.specs.Words.{BooleanIs}
+use Rattle.tree_weight.specs.ScorerTree.{nothing, term, phrase, range, everything, constant, weighted, Joining, Scorer, leaf, boolean, Scorers, matches, all_match, any_matches, matching, leaf_score, scorer_score, required_scores, optional_scores, joined_score}
+use Rattle.tree_weight.specs.State.{words_of}
+use Rattle.tree_weight.specs.Held.{FloatIs, ScoringIs, KeptIs}
+use Rattle.tree_weight.specs.Sound.{Sound, Tables, nodes, nodes_of}
+use Rattle.score_leaf.proofs.Bounds.{scores-more, zero-32}
+use Rattle.score_leaf.proofs.Weights.{float_back, float-number}
+use Rattle.tree_node.specs.Words.{BooleanRead}
 use Rattle.window_words.specs.Windowed.{Places, nowhere, places_of, required_places, optional_places, optional_bound, Windowed, AllWindowed}
 use Rattle.window_words.proofs.Laws.{kind_of, windowed-ok, windowed-long, windowed-kind, windowed-forget, all-less, all-forget}
-use Rattle.node.specs.declared.Boolean.{Boolean}
+use Rattle.tree_node.specs.declared.Boolean.{Boolean}
 use Rattle.window_score.specs.Sums.{ConstantPre, ConstantPost}
-use Rattle.window_score.specs.Asked.{Reads, NodeAsked, ScoresPre, ScoresPost, BooleanAsked, BooleanLeft, BooleanPre, BooleanPost, RootPre, RootPost, RootPartsPre, RootPartsPost}
+use Rattle.window_score.specs.Asked.{Reads, NodeAsked, ScoresPre, ScoresPost, BooleanAsked, BooleanLeft, BooleanScoresPre, BooleanScoresPost, RootPre, RootPost, RootPartsPre, RootPartsPost}
 use Rattle.window_score.proofs.Loops.{put, sums-more}
 use Rattle.window_score.proofs.Groups.{added-as}
 use Rattle.window_score.proofs.Splits.{zero-sums}
 use Rattle.window_score.proofs.Alone.{sum-narrowed}
 use Rattle.score.proofs.Small.{ok-weighted}
-use Rattle.leaf_score.specs.declared.ScoreNode.{ScoreNode}
-use Rattle.leaf_score.specs.Words.{ScoreNodeIs, constant_score}
-use Rattle.leaf_score.proofs.Constants.{constant-some, constant-none}
+use Rattle.score_leaf.specs.declared.ScoreNode.{ScoreNode}
+use Rattle.score_leaf.specs.Words.{ScoreNodeIs, constant_score}
+use Rattle.score_leaf.proofs.Constants.{constant-some, constant-none}
 use Rattle.score.proofs.Nodes.{joins_at}
 
 -- ---- the score words of a record
@@ -81,10 +81,10 @@ weighted-at ix R (boolean none j need rs os ps) k o y b base D p h = ap (λ (w :
 weighted-at ix R (boolean (some c) j need rs os ps) k o y b base D p h = absurd (h (ap (λ (w : List ℕ). get_or w 11 0) p.4 ∙ p.7.kept.0))
 
 -- no constant score is read
-pub not-constant : {st : List ℕ} {m : ScoreNode} → ScoreNodeIs st m → None ≡ constant_score m → get_or st 11 0 ≡ 1 → ⊥
+pub not-constant : {states : List ℕ} {m : ScoreNode} → ScoreNodeIs states m → None ≡ constant_score m → get_or states 11 0 ≡ 1 → ⊥
 not-constant {m = m} M e h = constant-none m e (M.constant-is ∙ h)
 
-pub no-constant : {st : List ℕ} {m : ScoreNode} → ScoreNodeIs st m → (o : Option Float) → o ≡ constant_score m → (b : Bool) → b ≡ is_some o → b ≡ false → get_or st 11 0 ≡ 1 → ⊥
+pub no-constant : {states : List ℕ} {m : ScoreNode} → ScoreNodeIs states m → (o : Option Float) → o ≡ constant_score m → (b : Bool) → b ≡ is_some o → b ≡ false → get_or states 11 0 ≡ 1 → ⊥
 no-constant M None f b e t = not-constant M f
 no-constant M (Some x) f b e t = absurd (true≢false (sym e ∙ t))
 
@@ -96,9 +96,9 @@ bound-same : (t : Bool) (b : ℕ) → b ≡ cond t b b
 bound-same true b = refl
 bound-same false b = refl
 
-module _ (ix : Index) (V : Reads) (places k o : ℕ) (st : List ℕ) (want q : ℕ) (n : Boolean) (N : BooleanIs st n) where
+module _ (ix : Index) (V : Reads) (places k o : ℕ) (states : List ℕ) (want q : ℕ) (n : Boolean) (N : BooleanRead states n) where
   abbrev kids : List ℕ
-  kids = take (length st - node_state_words) (drop node_state_words st)
+  kids = take (length states - node_state_words) (drop node_state_words states)
 
   record BooleanAt (S : Scorer) : Type 0 where
     j : Joining
@@ -109,9 +109,9 @@ module _ (ix : Index) (V : Reads) (places k o : ℕ) (st : List ℕ) (want q : �
     asked : BooleanAsked ix V places j rs os n (k - 1) rest kids want q
     score : (d : ℕ) → joined_score j (required_scores ix rs d) (narrowed_sum (optional_scores ix os d)) ≡ scorer_score ix S d
     fewer : nodes_of rs + nodes_of os ≤ nodes S
-    done : (kids' : List ℕ) → BooleanLeft ix V rs os (k - 1) rest kids' → Windowed ix V.ranges S k o (put st node_state_words (length st) kids') (V.base + 64) (V.base + 64) nowhere
+    done : (kids' : List ℕ) → BooleanLeft ix V rs os (k - 1) rest kids' → Windowed ix V.ranges S k o (put states node_state_words (length states) kids') (V.base + 64) (V.base + 64) nowhere
 
-  boolean-at : (S : Scorer) → NodeAsked ix V places S k o st want q → kind_of S ≡ 3 → (get_or st 11 0 ≡ 1 → ⊥) → BooleanAt S
+  boolean-at : (S : Scorer) → NodeAsked ix V places S k o states want q → kind_of S ≡ 3 → (get_or states 11 0 ≡ 1 → ⊥) → BooleanAt S
   unfolding Windowed KeptIs scorer_score nodes matches Sound Tables kind_of
   boolean-at (leaf nothing c) A e h = absurd (omega (arith, e))
   boolean-at (leaf (term l) c) A e h = absurd (omega (arith, e))
@@ -123,7 +123,7 @@ module _ (ix : Index) (V : Reads) (places k o : ℕ) (st : List ℕ) (want q : �
       let S : Scorer = boolean none j need rs os ps in
       let p = A.held in
       let w : List ℕ = p.1 ++ (p.2 ++ p.3) in
-      let len : length st - node_state_words ≡ length w = omega (arith, ap length p.4) in
+      let len : length states - node_state_words ≡ length w = omega (arith, ap length p.4) in
       let same : kids ≡ w = rw (len, p.4, take-length) in
       let need-is : need ≡ n.need = sym (N.need-is ∙ ap (λ (l : List ℕ). get_or l 3 0) p.4 ∙ p.7.need-is) in
       let os-at : AllWindowed ix V.ranges os (k - 1) p.2 (optional_bound need (V.base + 64) V.base) V.base (λ i. ltb 0 need && bit i want) = all-less ix V.ranges os (k - 1) p.2 (optional_bound need (V.base + 64) V.base) V.base (optional_places ix S need V.base (places_of want)) (λ i. ltb 0 need && bit i want)
@@ -169,75 +169,75 @@ module _ (ix : Index) (V : Reads) (places k o : ℕ) (st : List ℕ) (want q : �
       }
 
 -- ---- the calls
-module _ {st : List ℕ} {V : Reads} {a b want : ℕ} {sums : List Float} {depth : ℕ} where
-  pub node-long : ScoresPre st V a b want sums depth → node_state_words ≤ length st
-  node-long w = windowed-long w.1 V.ranges w.3 depth w.4 st (V.base + 64) V.base (places_of want) w.7.held
+module _ {states : List ℕ} {V : Reads} {starts other_starts want : ℕ} {sums : List Float} {depth : ℕ} where
+  pub node-long : ScoresPre states V starts other_starts want sums depth → node_state_words ≤ length states
+  node-long w = windowed-long w.1 V.ranges w.3 depth w.4 states (V.base + 64) V.base (places_of want) w.7.held
 
-  kind : (w : ScoresPre st V a b want sums depth) → get_or st 0 0 ≡ kind_of w.3
-  kind w = windowed-kind w.1 V.ranges w.3 depth w.4 st (V.base + 64) V.base (places_of want) w.7.held
+  kind : (w : ScoresPre states V starts other_starts want sums depth) → get_or states 0 0 ≡ kind_of w.3
+  kind w = windowed-kind w.1 V.ranges w.3 depth w.4 states (V.base + 64) V.base (places_of want) w.7.held
 
   -- the same score for each document, and the words as they were
-  module _ (score : Float) (each : (w : ScoresPre st V a b want sums depth) → ((d : ℕ) → score ≡ scorer_score w.1 w.3 d) × AtMost (nodes w.3 * 2 ^ 29) score) where
-    each-ask : ScoresPre st V a b want sums depth → ConstantPre score sums
+  module _ (score : Float) (each : (w : ScoresPre states V starts other_starts want sums depth) → ((d : ℕ) → score ≡ scorer_score w.1 w.3 d) × AtMost (nodes w.3 * 2 ^ 29) score) where
+    each-ask : ScoresPre states V starts other_starts want sums depth → ConstantPre score sums
     each-ask w = (w.5, nodes w.3, (w.7.few, w.8), (each w).1)
 
-    each-done : (sums' : List Float) → ConstantPost score want sums sums' → ScoresPost st V a b want sums depth st sums'
+    each-done : (sums' : List Float) → ConstantPost score want sums sums' → ScoresPost states V starts other_starts want sums depth states sums'
     each-done sums' add n ix places S sc q L A s =
-        let w : ScoresPre st V a b want sums depth = (n, ix, places, S, sc, q, L, A, s) in
+        let w : ScoresPre states V starts other_starts want sums depth = (n, ix, places, S, sc, q, L, A, s) in
         let z = add q (nodes S) (A.few, s) (each w).1 in
-        (added-as (λ p. score) (λ p. scorer_score ix S (V.base + p)) want sums sums' (λ p l e. (each w).0 (V.base + p)) z.0, z.1, windowed-forget ix V.ranges S depth sc st (V.base + 64) V.base (places_of want) (V.base + 64) (le_refl _) (omega arith) A.held)
+        (added-as (λ p. score) (λ p. scorer_score ix S (V.base + p)) want sums sums' (λ p l e. (each w).0 (V.base + p)) z.0, z.1, windowed-forget ix V.ranges S depth sc states (V.base + 64) V.base (places_of want) (V.base + 64) (le_refl _) (omega arith) A.held)
 
-  module _ (m : ScoreNode) (M : ScoreNodeIs st m) where
-    same : m.constant ≡ 1 → (w : ScoresPre st V a b want sums depth) → Same w.1 w.3 m.weight
-    same e w = subst (Same w.1 w.3) (sym M.weight_is) (same-at w.1 V.ranges w.3 depth w.4 st (V.base + 64) V.base (places_of want) w.7.held (sym M.constant-is ∙ e))
+  module _ (m : ScoreNode) (M : ScoreNodeIs states m) where
+    same : m.constant ≡ 1 → (w : ScoresPre states V starts other_starts want sums depth) → Same w.1 w.3 m.weight
+    same e w = subst (Same w.1 w.3) (sym M.weight_is) (same-at w.1 V.ranges w.3 depth w.4 states (V.base + 64) V.base (places_of want) w.7.held (sym M.constant-is ∙ e))
 
-    pub constant-number : ScoresPre st V a b want sums depth → m.constant ≡ 1 → T (not (nan_bits binary32 m.weight))
+    pub constant-number : ScoresPre states V starts other_starts want sums depth → m.constant ≡ 1 → T (not (nan_bits binary32 m.weight))
     constant-number w e = (same e w).number
 
     module _ (score : Float) (is : Some score ≡ constant_score m) where
-      same-each : (w : ScoresPre st V a b want sums depth) → ((d : ℕ) → score ≡ scorer_score w.1 w.3 d) × AtMost (nodes w.3 * 2 ^ 29) score
+      same-each : (w : ScoresPre states V starts other_starts want sums depth) → ((d : ℕ) → score ≡ scorer_score w.1 w.3 d) × AtMost (nodes w.3 * 2 ^ 29) score
       same-each w =
           let k = constant-some m score is in
           let s = same k.0 w in
           (λ d. k.1 ∙ s.is d, subst (λ (x : Float). AtMost (nodes w.3 * 2 ^ 29) x) (sym k.1) s.small)
 
-      pub constant-ask : ScoresPre st V a b want sums depth → ConstantPre score sums
+      pub constant-ask : ScoresPre states V starts other_starts want sums depth → ConstantPre score sums
       constant-ask = each-ask score same-each
 
-      pub constant-done : (sums' : List Float) → ConstantPost score want sums sums' → ScoresPost st V a b want sums depth st sums'
+      pub constant-done : (sums' : List Float) → ConstantPost score want sums sums' → ScoresPost states V starts other_starts want sums depth states sums'
       constant-done = each-done score same-each
 
-  module _ (other : get_or st 11 0 ≡ 1 → ⊥) where
-    pub phrase-weighted : ScoresPre st V a b want sums depth → get_or st 11 0 ≡ 0
-    phrase-weighted w = weighted-at w.1 V.ranges w.3 depth w.4 st (V.base + 64) V.base (places_of want) w.7.held other
+  module _ (other : get_or states 11 0 ≡ 1 → ⊥) where
+    pub phrase-weighted : ScoresPre states V starts other_starts want sums depth → get_or states 11 0 ≡ 0
+    phrase-weighted w = weighted-at w.1 V.ranges w.3 depth w.4 states (V.base + 64) V.base (places_of want) w.7.held other
 
     -- neither a term, a phrase nor a Boolean
-    module _ (no-term : get_or st 0 0 ≡ 1 → ⊥) (no-phrase : get_or st 0 0 ≡ 2 → ⊥) (no-boolean : get_or st 0 0 ≡ 3 → ⊥) where
-      zeroed : (w : ScoresPre st V a b want sums depth) → ((d : ℕ) → of_bits binary32 0 ≡ scorer_score w.1 w.3 d) × AtMost (nodes w.3 * 2 ^ 29) (of_bits binary32 0)
+    module _ (no-term : get_or states 0 0 ≡ 1 → ⊥) (no-phrase : get_or states 0 0 ≡ 2 → ⊥) (no-boolean : get_or states 0 0 ≡ 3 → ⊥) where
+      zeroed : (w : ScoresPre states V starts other_starts want sums depth) → ((d : ℕ) → of_bits binary32 0 ≡ scorer_score w.1 w.3 d) × AtMost (nodes w.3 * 2 ^ 29) (of_bits binary32 0)
       zeroed w =
-          let z = zero-at w.1 V.ranges w.3 depth w.4 st (V.base + 64) V.base (places_of want) w.7.held other (λ e. no-term (kind w ∙ e)) (λ e. no-phrase (kind w ∙ e)) (λ e. no-boolean (kind w ∙ e)) in
+          let z = zero-at w.1 V.ranges w.3 depth w.4 states (V.base + 64) V.base (places_of want) w.7.held other (λ e. no-term (kind w ∙ e)) (λ e. no-phrase (kind w ∙ e)) (λ e. no-boolean (kind w ∙ e)) in
           ((λ d. zero-32 ∙ z.0 d), subst (λ (x : Float). AtMost (nodes w.3 * 2 ^ 29) x) (sym zero-32) (zero-atmost _))
 
-      pub zero-ask : ScoresPre st V a b want sums depth → ConstantPre (of_bits binary32 0) sums
+      pub zero-ask : ScoresPre states V starts other_starts want sums depth → ConstantPre (of_bits binary32 0) sums
       zero-ask = each-ask (of_bits binary32 0) zeroed
 
-      pub zero-done : (sums' : List Float) → ConstantPost (of_bits binary32 0) want sums sums' → ScoresPost st V a b want sums depth st sums'
+      pub zero-done : (sums' : List Float) → ConstantPost (of_bits binary32 0) want sums sums' → ScoresPost states V starts other_starts want sums depth states sums'
       zero-done = each-done (of_bits binary32 0) zeroed
 
     -- a Boolean
-    module _ (is-boolean : get_or st 0 0 ≡ 3) (n : Boolean) (N : BooleanIs st n) where
-      here : (w : ScoresPre st V a b want sums depth) → BooleanAt w.1 V w.2 depth w.4 st want w.5 n N w.3
-      here w = boolean-at w.1 V w.2 depth w.4 st want w.5 n N w.3 w.7 (sym (kind w) ∙ is-boolean) other
+    module _ (is-boolean : get_or states 0 0 ≡ 3) (n : Boolean) (N : BooleanRead states n) where
+      here : (w : ScoresPre states V starts other_starts want sums depth) → BooleanAt w.1 V w.2 depth w.4 states want w.5 n N w.3
+      here w = boolean-at w.1 V w.2 depth w.4 states want w.5 n N w.3 w.7 (sym (kind w) ∙ is-boolean) other
 
-      pub boolean-deep : ScoresPre st V a b want sums depth → 0 < depth
+      pub boolean-deep : ScoresPre states V starts other_starts want sums depth → 0 < depth
       boolean-deep w = (here w).deep
 
-      pub boolean-ask : ScoresPre st V a b want sums depth → BooleanPre (take (length st - node_state_words) (drop node_state_words st)) n V a b want sums (depth - 1)
+      pub boolean-ask : ScoresPre states V starts other_starts want sums depth → BooleanScoresPre (take (length states - node_state_words) (drop node_state_words states)) n V starts other_starts want sums (depth - 1)
       boolean-ask w = let B = here w in (w.0, w.1, w.2, B.j, B.rs, B.os, B.rest, w.5, w.6, B.asked, w.8)
 
-      pub boolean-done : (kids' : List ℕ) (sums' : List Float) → BooleanPost (take (length st - node_state_words) (drop node_state_words st)) n V a b want sums (depth - 1) kids' sums' → ScoresPost st V a b want sums depth (put st node_state_words (length st) kids') sums'
+      pub boolean-done : (kids' : List ℕ) (sums' : List Float) → BooleanScoresPost (take (length states - node_state_words) (drop node_state_words states)) n V starts other_starts want sums (depth - 1) kids' sums' → ScoresPost states V starts other_starts want sums depth (put states node_state_words (length states) kids') sums'
       boolean-done kids' sums' post m ix places S sc q L A s =
-          let w : ScoresPre st V a b want sums depth = (m, ix, places, S, sc, q, L, A, s) in
+          let w : ScoresPre states V starts other_starts want sums depth = (m, ix, places, S, sc, q, L, A, s) in
           let B = here w in
           let z = post m ix places B.j B.rs B.os B.rest q L B.asked s in (
             added-as (λ p. joined_score B.j (required_scores ix B.rs (V.base + p)) (narrowed_sum (optional_scores ix B.os (V.base + p)))) (λ p. scorer_score ix S (V.base + p)) want sums sums' (λ p l e. B.score (V.base + p)) z.0,
@@ -246,29 +246,29 @@ module _ {st : List ℕ} {V : Reads} {a b want : ℕ} {sums : List Float} {depth
           )
 
 -- ---- a root, whose sums were 0
-root-here : (ix : Index) (V : Reads) (places k o : ℕ) (st : List ℕ) (want : ℕ) (n : Boolean) (N : BooleanIs st n) (S : Scorer) → (get_or st 11 0 ≡ 1 → ⊥) → get_or st 0 0 ≡ 3 → NodeAsked ix V places S k o st want 0 → BooleanAt ix V places k o st want 0 n N S
-root-here ix V places k o st want n N S other is-boolean A =
-    boolean-at ix V places k o st want 0 n N S A (sym (windowed-kind ix V.ranges S k o st (V.base + 64) V.base (places_of want) A.held) ∙ is-boolean) other
+root-here : (ix : Index) (V : Reads) (places k o : ℕ) (states : List ℕ) (want : ℕ) (n : Boolean) (N : BooleanRead states n) (S : Scorer) → (get_or states 11 0 ≡ 1 → ⊥) → get_or states 0 0 ≡ 3 → NodeAsked ix V places S k o states want 0 → BooleanAt ix V places k o states want 0 n N S
+root-here ix V places k o states want n N S other is-boolean A =
+    boolean-at ix V places k o states want 0 n N S A (sym (windowed-kind ix V.ranges S k o states (V.base + 64) V.base (places_of want) A.held) ∙ is-boolean) other
 
-module _ {st : List ℕ} {V : Reads} {a b want : ℕ} {sums : List Float} {depth : ℕ} where
-  pub root-as : RootPre st V a b want sums depth → ScoresPre st V a b want sums depth
+module _ {states : List ℕ} {V : Reads} {starts other_starts want : ℕ} {sums : List Float} {depth : ℕ} where
+  pub root-as : RootPre states V starts other_starts want sums depth → ScoresPre states V starts other_starts want sums depth
   root-as w = let r = w.1 in (r.0, r.1, r.2, r.3, r.4, 0, r.5, r.6, zero-sums sums w.0)
 
-  pub root-done : RootPre st V a b want sums depth → (st' : List ℕ) (sums' : List Float) → ScoresPost st V a b want sums depth st' sums' → RootPost st V a b want sums depth st' sums'
-  root-done w st' sums' post n ix places S sc L A =
+  pub root-done : RootPre states V starts other_starts want sums depth → (states' : List ℕ) (sums' : List Float) → ScoresPost states V starts other_starts want sums depth states' sums' → RootPost states V starts other_starts want sums depth states' sums'
+  root-done w states' sums' post n ix places S sc L A =
       let z = post n ix places S sc 0 L A (zero-sums sums w.0) in
-      let W = ok-weighted ix V.ranges S depth sc st (V.base + 64) (windowed-ok ix V.ranges S depth sc st (V.base + 64) V.base (places_of want) (omega arith) A.held) in
+      let W = ok-weighted ix V.ranges S depth sc states (V.base + 64) (windowed-ok ix V.ranges S depth sc states (V.base + 64) V.base (places_of want) (omega arith) A.held) in
       (record { long = z.1.long; wanted = λ p l e. sum-narrowed ix L.lends.accepted places S W A.scorable.sound A.scorable.few (V.base + p) (get_or sums p nan) (w.0.zero p l) (get_or sums' p nan) (z.0.wanted p l e); others = z.0.others }, z.2)
 
-  module _ (other : get_or st 11 0 ≡ 1 → ⊥) (is-boolean : get_or st 0 0 ≡ 3) (n : Boolean) (N : BooleanIs st n) where
-    pub root-deep : RootPre st V a b want sums depth → 0 < depth
-    root-deep w = let r = w.1 in (root-here r.1 V r.2 depth r.4 st want n N r.3 other is-boolean r.6).deep
+  module _ (other : get_or states 11 0 ≡ 1 → ⊥) (is-boolean : get_or states 0 0 ≡ 3) (n : Boolean) (N : BooleanRead states n) where
+    pub root-deep : RootPre states V starts other_starts want sums depth → 0 < depth
+    root-deep w = let r = w.1 in (root-here r.1 V r.2 depth r.4 states want n N r.3 other is-boolean r.6).deep
 
-    pub root-ask : RootPre st V a b want sums depth → RootPartsPre (take (length st - node_state_words) (drop node_state_words st)) n V a b want sums (depth - 1)
-    root-ask w = let r = w.1 in let B = root-here r.1 V r.2 depth r.4 st want n N r.3 other is-boolean r.6 in (w.0, (r.0, r.1, r.2, B.j, B.rs, B.os, B.rest, r.5, B.asked))
+    pub root-ask : RootPre states V starts other_starts want sums depth → RootPartsPre (take (length states - node_state_words) (drop node_state_words states)) n V starts other_starts want sums (depth - 1)
+    root-ask w = let r = w.1 in let B = root-here r.1 V r.2 depth r.4 states want n N r.3 other is-boolean r.6 in (w.0, (r.0, r.1, r.2, B.j, B.rs, B.os, B.rest, r.5, B.asked))
 
-    pub root-part : (kids' : List ℕ) (sums' : List Float) → RootPartsPost (take (length st - node_state_words) (drop node_state_words st)) n V a b want sums (depth - 1) kids' sums' → RootPost st V a b want sums depth (put st node_state_words (length st) kids') sums'
+    pub root-part : (kids' : List ℕ) (sums' : List Float) → RootPartsPost (take (length states - node_state_words) (drop node_state_words states)) n V starts other_starts want sums (depth - 1) kids' sums' → RootPost states V starts other_starts want sums depth (put states node_state_words (length states) kids') sums'
     root-part kids' sums' post m ix places S sc L A =
-        let B = root-here ix V places depth sc st want n N S other is-boolean A in
+        let B = root-here ix V places depth sc states want n N S other is-boolean A in
         let z = post m ix places B.j B.rs B.os B.rest L B.asked in
         (record { long = z.0.long; wanted = λ p l e. z.0.wanted p l e ∙ B.score (V.base + p); others = z.0.others }, B.done kids' z.2)

@@ -1,25 +1,22 @@
 -- An only child: its score is a binary32 value that is not negative, so a sum of it alone is narrow already, and its score joins another
 -- sum as it is. Assumes nothing.
-use Rattle.std.proofs.Common.{◌≡◌, sym, ap, ◌∙◌, Bool, true, false, cond, List, [], ◌∷◌, ◌++◌, ℕ, ◌+◌, ◌*◌, ◌<◌, T, length, get_or, length-append, mul_comm, add_comm, arith}
+use Rattle.std.proofs.Common.{◌≡◌, sym, ap, ◌∙◌, Bool, true, false, cond, List, [], ◌∷◌, ◌++◌, ℕ, ◌+◌, ◌*◌, ◌<◌, T, length, get_or, length-append, arith}
 use Rattle.std.proofs.Math.ListN.{get_or-append}
 use Rattle.std.specs.Prelude.{Float}
 use Rattle.std.specs.Float.{binary32, binary64}
-use Rattle.std.specs.Float.Ieee.{add, round, fits}
-use Rattle.std.specs.Float.Ieee.Positive.{num, den}
+use Rattle.std.specs.Float.Ieee.{add, fits}
 use Rattle.meaning.specs.Lent.{Index}
 use Rattle.meaning.specs.Ieee754.{zero_float, narrow, sum_from, narrowed_sum}
 use Rattle.ieee754.specs.Nonneg.{nonneg}
-use Rattle.ieee754.proofs.Ranges.{add_is}
 use Rattle.index.specs.Accepted.{Accepted}
-use Rattle.weight.specs.ScorerTree.{Scorer, Scorers, end, more, matches, scorer_score, scoring, required_scores, optional_scores}
-use Rattle.weight.specs.Sound.{Sounds, nodes_of}
-use Rattle.weight.proofs.Weights.{WeightedAll}
+use Rattle.tree_weight.specs.ScorerTree.{Scorer, Scorers, end, more, matches, scorer_score, scoring, required_scores, optional_scores}
+use Rattle.tree_weight.specs.Sound.{Sounds, nodes_of}
+use Rattle.tree_weight.proofs.Weights.{WeightedAll}
 use Rattle.score.specs.Asked.{Scorables}
 use Rattle.window_score.specs.Asked.{only_child}
-use Rattle.window_score.proofs.Alone.{narrow-alone}
 use Rattle.std.proofs.lemmas.Bool.{eqb-true}
 use lib.Ieee.Fits.{fits_widens}
-use Rattle.score.proofs.Alone.{zero-narrowed, zero-plus, plus-zero}
+use Rattle.score.proofs.Alone.{zero-narrowed, zero-plus, plus-zero, narrow-alone}
 use Rattle.score.proofs.Small.{score-small, score-fits, oks-weighted}
 use Rattle.window_words.specs.Windowed.{Places, AllWindowed}
 use Rattle.window_words.proofs.Laws.{windowed-long, windowed-size, all-mono, all-ok}
@@ -42,14 +39,6 @@ only-of ix ranges (more f s (more g t ss)) depth x b base D p e =
     let size : length y ≡ length x =
     sym (windowed-size ix ranges s depth (cond f 1 0) y b base D p.3) ∙ sym (get_or-append y p.1 0 1 there) ∙ ap (λ (l : List ℕ). get_or l 1 0) (sym p.2) ∙ eqb-true _ _ e in
     absurd (omega (arith, size, ap length p.2, length-append y p.1, ap length q.2, length-append q.0 q.1, windowed-long ix ranges t depth (cond g 1 0) q.0 b base D q.3))
-
--- ---- addition of values that are not negative is commutative
-pub add-comm : (x y : Float) → T (nonneg x) → T (nonneg y) → add binary64 x y ≡ add binary64 y x
-add-comm x y p q =
-    add_is binary64 x y p q
-    ∙ ap (λ (n : ℕ). round binary64 false n (den x * den y)) (add_comm (num x * den y) (num y * den x))
-    ∙ ap (λ (n : ℕ). round binary64 false (num y * den x + num x * den y) n) (mul_comm (den x) (den y))
-    ∙ sym (add_is binary64 y x q p)
 
 -- ---- the weights of some nodes, whatever they were asked
 all-weighted : (ix : Index) (ranges : List ℕ) (ss : Scorers) (depth : ℕ) (x : List ℕ) (b base : ℕ) (D : Places) → AllWindowed ix ranges ss depth x b base D → WeightedAll ss

@@ -7,8 +7,8 @@ use Rattle.meaning.specs.Lent.{Index}
 use Rattle.meaning.specs.Ieee754.{zero_float}
 use Rattle.ieee754.specs.Nonneg.{AtMost}
 use Rattle.ieee754.proofs.Bounds.{zero-atmost}
-use Rattle.weight.specs.ScorerTree.{Scorers, end, more}
-use Rattle.weight.specs.State.{sizes_of_first}
+use Rattle.tree_weight.specs.ScorerTree.{Scorers, end, more}
+use Rattle.tree_weight.specs.State.{sizes_of_first}
 use Rattle.score.proofs.Join.{first_of, rest_of}
 use Rattle.window_words.specs.Windowed.{Places, AllWindowed}
 use Rattle.window_words.proofs.Laws.{windowed-length}

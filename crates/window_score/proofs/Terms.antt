@@ -19,25 +19,25 @@ use Rattle.index.specs.Accepted.{Accepted}
 use Rattle.index.specs.Runs.{posting_frequency}
 use Rattle.index.proofs.PostingAt.{posting-at}
 use Rattle.run.specs.Run.{Run}
-use Rattle.weight.specs.ScorerTree.{nothing, term, phrase, range, everything, Scoring, constant, weighted, Scorer, leaf, boolean, matches, leaf_matches, leaf_score, scorer_score}
-use Rattle.weight.specs.State.{State, words_of}
-use Rattle.weight.specs.Held.{TermIs, FloatIs, ScoringIs}
-use Rattle.weight.specs.Sound.{LeafSound, Sound, LeafTable, Tables, nodes}
-use Rattle.leaf_score.specs.declared.ScoreNode.{ScoreNode}
-use Rattle.leaf_score.specs.Words.{ScoreNodeIs, first_byte, constant_score, Bytes, Weighs, answer}
-use Rattle.leaf_score.proofs.Constants.{constant-some}
+use Rattle.tree_weight.specs.ScorerTree.{nothing, term, phrase, range, everything, Scoring, constant, weighted, Scorer, leaf, boolean, matches, leaf_matches, leaf_score, scorer_score}
+use Rattle.tree_weight.specs.State.{State, words_of}
+use Rattle.tree_weight.specs.Held.{TermIs, FloatIs, ScoringIs}
+use Rattle.tree_weight.specs.Sound.{LeafSound, Sound, LeafTable, Tables, nodes}
+use Rattle.score_leaf.specs.declared.ScoreNode.{ScoreNode}
+use Rattle.score_leaf.specs.Words.{ScoreNodeIs, first_byte, constant_score, Bytes, Weighs, weighted_score}
+use Rattle.score_leaf.proofs.Constants.{constant-some}
 use Rattle.std.specs.Prelude.{Some}
-use Rattle.leaf_score.specs.Asked.{LentAt}
-use Rattle.leaf_score.proofs.Leaves.{Read, read, field-weighs, field-answer}
-use Rattle.leaf_score.proofs.Weights.{float_back, float-number}
+use Rattle.score_leaf.specs.Asked.{LentAt}
+use Rattle.score_leaf.proofs.Leaves.{Read, read, field-weighs, field-answer}
+use Rattle.score_leaf.proofs.Weights.{float_back, float-number}
 use Rattle.bits.specs.Bit.{bit}
 use Rattle.window.specs.Windows.{Cursor}
 use Rattle.window.proofs.Rank.{posting-of-bit}
-use Rattle.window_words.specs.Windowed.{nowhere, places_of, joined, window_bits, TermWindow, TermAsked, LeafWindowed, Windowed}
+use Rattle.window_words.specs.Windowed.{nowhere, places_of, two_words, window_bits, TermWindow, TermAsked, LeafWindowed, Windowed}
 use Rattle.window_words.proofs.Laws.{windowed-forget, windowed-kind, windowed-long, kind_of}
-use Rattle.window_score.specs.Places.{rank_of, term_score, TermPlace}
+use Rattle.window_score.specs.Places.{rank_of, term_score_at, TermPlace}
 use Rattle.window_score.specs.Sums.{Sums, Added, ConstantPre, ConstantPost}
-use Rattle.window_score.specs.Asked.{Reads, with_lists, WindowLent, NodeAsked, TermPre, TermPost}
+use Rattle.window_score.specs.Asked.{Reads, with_lists, WindowLent, NodeAsked, TermScoresPre, TermScoresPost}
 use Rattle.window_score.proofs.Adding.{added-same, added-small}
 
 -- ---- the posting of a wanted place
@@ -67,12 +67,12 @@ module _ (ix : Index) (A : Accepted ix) (l : ℕ) (there : l < leaf_count ix) (f
 
 -- ---- the node
 -- a term at the places of a window
-pub record TermIn (ix : Index) (table : List Float) (st : List ℕ) (base want : ℕ) (S : Scorer) : Type 0 where
+pub record TermIn (ix : Index) (table : List Float) (states : List ℕ) (base want : ℕ) (S : Scorer) : Type 0 where
   pub l : ℕ
   pub sc : Scoring
   pub s : State
   pub is : S ≡ leaf (term l) sc
-  pub words : st ≡ words_of s ++ []
+  pub words : states ≡ words_of s ++ []
   pub there : l < leaf_count ix
   pub tables : LeafTable ix table (term l) sc
   pub term-is : TermIs ix 1 l s (base + 64)
@@ -80,18 +80,18 @@ pub record TermIn (ix : Index) (table : List Float) (st : List ℕ) (base want :
   pub scoring : ScoringIs sc s
   pub match : (p : ℕ) → p < 64 → bit p want ≡ true → found (posting_at ix l (base + p)) ≡ true
 
-term-one : {ix : Index} {table : List Float} {st : List ℕ} {base want : ℕ} {S : Scorer} → TermIn ix table st base want S → nodes S ≡ 1
+term-one : {ix : Index} {table : List Float} {states : List ℕ} {base want : ℕ} {S : Scorer} → TermIn ix table states base want S → nodes S ≡ 1
 unfolding nodes
 term-one t = ap nodes t.is
 
-module _ (ix : Index) (V : Reads) (places depth scores : ℕ) (st : List ℕ) (want q : ℕ) where
+module _ (ix : Index) (V : Reads) (places depth scores : ℕ) (states : List ℕ) (want q : ℕ) where
   abbrev Asked : Scorer → Type 0
-  Asked S = NodeAsked ix V places S depth scores st want q
+  Asked S = NodeAsked ix V places S depth scores states want q
 
-  kind-of : (S : Scorer) → Asked S → get_or st 0 0 ≡ kind_of S
-  kind-of S H = windowed-kind ix V.ranges S depth scores st (V.base + 64) V.base (places_of want) H.held
+  kind-of : (S : Scorer) → Asked S → get_or states 0 0 ≡ kind_of S
+  kind-of S H = windowed-kind ix V.ranges S depth scores states (V.base + 64) V.base (places_of want) H.held
 
-  pub term-in : (S : Scorer) → Asked S → get_or st 0 0 ≡ 1 → TermIn ix V.inverses st V.base want S
+  pub term-in : (S : Scorer) → Asked S → get_or states 0 0 ≡ 1 → TermIn ix V.inverses states V.base want S
   unfolding kind_of Windowed LeafWindowed Sound LeafSound Tables matches leaf_matches
   term-in (leaf nothing sc) H k = absurd (omega (arith, kind-of (leaf nothing sc) H, k))
   term-in (leaf (term l) sc) H k =
@@ -101,7 +101,7 @@ module _ (ix : Index) (V : Reads) (places depth scores : ℕ) (st : List ℕ) (w
         sc = sc;
         s = h.0;
         is = refl;
-        words = subst (λ (w : List ℕ). st ≡ words_of h.0 ++ w) h.4.2 h.2;
+        words = subst (λ (w : List ℕ). states ≡ words_of h.0 ++ w) h.4.2 h.2;
         there = H.scorable.sound;
         tables = H.scorable.tables;
         term-is = h.4.0;
@@ -123,32 +123,32 @@ constant-score ix l (constant c) s n R p e =
 constant-score ix l (weighted w) s n R p e = absurd (omega (arith, R.constant-is, p.0))
 
 -- its constant score
-term-constant : {ix : Index} {table : List Float} {st : List ℕ} {base want : ℕ} {S : Scorer} → TermIn ix table st base want S → (n : ScoreNode) → ScoreNodeIs st n → n.constant ≡ 1 → T (not (nan_bits binary32 n.weight)) × AtMost (2 ^ 29) (of_bits binary32 n.weight) × ((d : ℕ) → of_bits binary32 n.weight ≡ scorer_score ix S d)
+term-constant : {ix : Index} {table : List Float} {states : List ℕ} {base want : ℕ} {S : Scorer} → TermIn ix table states base want S → (n : ScoreNode) → ScoreNodeIs states n → n.constant ≡ 1 → T (not (nan_bits binary32 n.weight)) × AtMost (2 ^ 29) (of_bits binary32 n.weight) × ((d : ℕ) → of_bits binary32 n.weight ≡ scorer_score ix S d)
 unfolding scorer_score
-term-constant {ix} {st = st} t n N e =
-    let r = constant-score ix t.l t.sc t.s n (read st [] t.s n t.words N) t.scoring e in
+term-constant {ix} {states = states} t n N e =
+    let r = constant-score ix t.l t.sc t.s n (read states [] t.s n t.words N) t.scoring e in
     (r.0, r.1, λ d. r.2 d ∙ ap (λ (x : Scorer). scorer_score ix x d) (sym t.is))
 
-module _ (ix : Index) (max : ℕ) (V : Reads) (places a b want : ℕ) (L : WindowLent ix max V places a b want) (st : List ℕ) (n : ScoreNode) (N : ScoreNodeIs st n) where
+module _ (ix : Index) (max : ℕ) (V : Reads) (places starts other_starts want : ℕ) (L : WindowLent ix max V places starts other_starts want) (states : List ℕ) (n : ScoreNode) (N : ScoreNodeIs states n) where
   lent-at : (p : ℕ) → p < 64 → bit p want ≡ true → LentAt ix max V.postings V.positions V.norms (V.base + p)
   lent-at p l e = record { lends = L.lends; norms-are = L.norms-are; document = L.wanted p l e }
 
   -- a leaf that scores by BM25 at a frequency
-  pub field-place : (p : ℕ) → p < 64 → bit p want ≡ true → (f : ℕ) → f < Rattle.meaning.specs.Lent.field_count ix → Rattle.weight.specs.Sound.FieldTable ix V.inverses f → (w : Float) → FloatIs w n.weight → n.field ≡ f → n.norms ≡ first_byte (Rattle.weight.specs.Held.norms_word ix f) → (frequency : ℕ) → frequency ≤ largest_frequency → Weighs n V.norms V.inverses (V.base + p) frequency × (Bytes V.norms → (answer n V.norms V.inverses (V.base + p) frequency ≡ field_score ix f w frequency (V.base + p)) × AtMost (2 ^ 29) (answer n V.norms V.inverses (V.base + p) frequency))
+  pub field-place : (p : ℕ) → p < 64 → bit p want ≡ true → (f : ℕ) → f < Rattle.meaning.specs.Lent.field_count ix → Rattle.tree_weight.specs.Sound.FieldTable ix V.inverses f → (w : Float) → FloatIs w n.weight → n.field ≡ f → n.norms ≡ first_byte (Rattle.tree_weight.specs.Held.norms_word ix f) → (frequency : ℕ) → frequency ≤ largest_frequency → Weighs n V.norms V.inverses (V.base + p) frequency × (Bytes V.norms → (weighted_score n V.norms V.inverses (V.base + p) frequency ≡ field_score ix f w frequency (V.base + p)) × AtMost (2 ^ 29) (weighted_score n V.norms V.inverses (V.base + p) frequency))
   field-place p l e f o F w x g h frequency few =
       let K = lent-at p l e in
-      (field-weighs ix max V.postings V.positions V.norms (V.base + p) K V.inverses n f o F w x g h frequency few, λ bytes. field-answer ix max V.postings V.positions V.norms (V.base + p) K V.inverses n f o F w x g h frequency few bytes (answer n V.norms V.inverses (V.base + p) frequency) refl)
+      (field-weighs ix max V.postings V.positions V.norms (V.base + p) K V.inverses n f o F w x g h frequency few, λ bytes. field-answer ix max V.postings V.positions V.norms (V.base + p) K V.inverses n f o F w x g h frequency few bytes (weighted_score n V.norms V.inverses (V.base + p) frequency) refl)
 
-  module _ (words : (i : ℕ) → get_or st i 0 < 4294967296) (S : Scorer) (t : TermIn ix V.inverses st V.base want S) where
+  module _ (words : (i : ℕ) → get_or states i 0 < 4294967296) (S : Scorer) (t : TermIn ix V.inverses states V.base want S) where
     R : Read n t.s
-    R = read st [] t.s n t.words N
+    R = read states [] t.s n t.words N
 
-    module _ (first bits : ℕ) (first-is : first ≡ n.first + get_or st 19 0) (bits-are : bits ≡ joined (get_or st 20 0) (get_or st 21 0)) where
+    module _ (first bits : ℕ) (first-is : first ≡ n.first + get_or states 19 0) (bits-are : bits ≡ two_words (get_or states 20 0) (get_or states 21 0)) where
       first-at : first ≡ leaf_first ix t.l + t.s.window_first
       first-at = omega (arith, first-is, R.first-is, t.term-is.first-is, ap (λ (y : List ℕ). get_or y 19 0) t.words)
 
       bits-at : bits ≡ window_bits t.s
-      bits-at = bits-are ∙ ap (λ (y : List ℕ). joined (get_or y 20 0) (get_or y 21 0)) t.words
+      bits-at = bits-are ∙ ap (λ (y : List ℕ). two_words (get_or y 20 0) (get_or y 21 0)) t.words
 
       number-few : leaf_number ix t.l < 9223372036854775808
       number-few = omega (arith, t.term-is.number_is, ap (λ (y : List ℕ). get_or y 7 0) t.words, words 7)
@@ -180,7 +180,7 @@ module _ (ix : Index) (max : ℕ) (V : Reads) (places a b want : ℕ) (L : Windo
         place-there : first + rank_of bits p < length V.postings / 3
         place-there = omega (arith, first-at, rank-at, here.0, (L.lends.accepted.leaf t.l t.there).run, ap length L.lends.postings-are)
 
-        place-by : (sc : Scoring) → ScoringIs sc t.s → LeafTable ix V.inverses (term t.l) sc → (n.constant ≡ 1 → ⊥) → Weighs n V.norms V.inverses (V.base + p) frequency × (Bytes V.norms → (term_score n V.norms V.inverses V.postings first bits V.base p ≡ leaf_score ix (term t.l) sc (V.base + p)) × AtMost (2 ^ 29) (term_score n V.norms V.inverses V.postings first bits V.base p))
+        place-by : (sc : Scoring) → ScoringIs sc t.s → LeafTable ix V.inverses (term t.l) sc → (n.constant ≡ 1 → ⊥) → Weighs n V.norms V.inverses (V.base + p) frequency × (Bytes V.norms → (term_score_at n V.norms V.inverses V.postings first bits V.base p ≡ leaf_score ix (term t.l) sc (V.base + p)) × AtMost (2 ^ 29) (term_score_at n V.norms V.inverses V.postings first bits V.base p))
         unfolding ScoringIs LeafTable leaf_score
         place-by (constant c) k F m = absurd (m (R.constant-is ∙ k.0))
         place-by (weighted w) k F m =
@@ -193,7 +193,7 @@ module _ (ix : Index) (max : ℕ) (V : Reads) (places a b want : ℕ) (L : Windo
             let r = place-by t.sc t.scoring t.tables m in
             record { within = l; few = omega (arith, l, L.small); there = place-there; weighs = r.0; number = λ bytes. atmost-number (r.1 bytes).1 }
 
-        pub term-scores : (n.constant ≡ 1 → ⊥) → Bytes V.norms → (term_score n V.norms V.inverses V.postings first bits V.base p ≡ scorer_score ix S (V.base + p)) × AtMost (2 ^ 29) (term_score n V.norms V.inverses V.postings first bits V.base p)
+        pub term-scores : (n.constant ≡ 1 → ⊥) → Bytes V.norms → (term_score_at n V.norms V.inverses V.postings first bits V.base p ≡ scorer_score ix S (V.base + p)) × AtMost (2 ^ 29) (term_score_at n V.norms V.inverses V.postings first bits V.base p)
         unfolding scorer_score
         term-scores m bytes =
             let r = (place-by t.sc t.scoring t.tables m).1 bytes in
@@ -201,53 +201,53 @@ module _ (ix : Index) (max : ℕ) (V : Reads) (places a b want : ℕ) (L : Windo
 
 -- ---- the end of a loop
 abbrev pub Scores : Index → List ℕ → Scorer → ℕ → ℕ → List ℕ → ℕ → ℕ → ℕ → List Float → List Float → Type 0
-Scores ix ranges S depth scores st base want q sums sums' =
-    Added (λ p. scorer_score ix S (base + p)) want sums sums' × Sums (q + nodes S) sums' × Windowed ix ranges S depth scores st (base + 64) (base + 64) nowhere
+Scores ix ranges S depth scores states base want q sums sums' =
+    Added (λ p. scorer_score ix S (base + p)) want sums sums' × Sums (q + nodes S) sums' × Windowed ix ranges S depth scores states (base + 64) (base + 64) nowhere
 
 -- a leaf's scores were added, and its words stay
-pub leaf-added : (ix : Index) (V : Reads) (places : ℕ) (S : Scorer) (depth scores : ℕ) (st : List ℕ) (want q : ℕ) (sums sums' : List Float) → nodes S ≡ 1 → NodeAsked ix V places S depth scores st want q → Sums q sums → length sums' ≡ 64 → (score : ℕ → Float) → Added score want sums sums' → ((p : ℕ) → p < 64 → bit p want ≡ true → (score p ≡ scorer_score ix S (V.base + p)) × AtMost (2 ^ 29) (score p)) → Scores ix V.ranges S depth scores st V.base want q sums sums'
-leaf-added ix V places S depth scores st want q sums sums' one H K long score A h = (
+pub leaf-added : (ix : Index) (V : Reads) (places : ℕ) (S : Scorer) (depth scores : ℕ) (states : List ℕ) (want q : ℕ) (sums sums' : List Float) → nodes S ≡ 1 → NodeAsked ix V places S depth scores states want q → Sums q sums → length sums' ≡ 64 → (score : ℕ → Float) → Added score want sums sums' → ((p : ℕ) → p < 64 → bit p want ≡ true → (score p ≡ scorer_score ix S (V.base + p)) × AtMost (2 ^ 29) (score p)) → Scores ix V.ranges S depth scores states V.base want q sums sums'
+leaf-added ix V places S depth scores states want q sums sums' one H K long score A h = (
   added-same score want sums sums' A (λ p. scorer_score ix S (V.base + p)) (λ p l e. (h p l e).0),
   subst (λ (r : ℕ). Sums (q + r) sums') (sym one) (added-small score want sums sums' A q 1 (omega (arith, one, H.few)) K long (λ p l e. small (score p) (h p l e).1)),
-  windowed-forget ix V.ranges S depth scores st (V.base + 64) V.base (places_of want) (V.base + 64) (omega arith) (omega arith) H.held,
+  windowed-forget ix V.ranges S depth scores states (V.base + 64) V.base (places_of want) (V.base + 64) (omega arith) (omega arith) H.held,
 )
   where
     small : (x : Float) → AtMost (2 ^ 29) x → AtMost (1 * 2 ^ 29) x
     small x i = i
 
 -- ---- what `term_scores` asks and gives
-module _ (V : Reads) {st : List ℕ} {want : ℕ} {sums : List Float} where
-  pub pre-long : TermPre st V want sums → node_state_words ≤ length st
-  pre-long P = windowed-long P.1.5.1 P.1.1 P.1.5.3 P.1.4 P.1.5.4 st (V.base + 64) V.base (places_of want) P.1.5.7.held
+module _ (V : Reads) {states : List ℕ} {want : ℕ} {sums : List Float} where
+  pub pre-long : TermScoresPre states V want sums → node_state_words ≤ length states
+  pre-long P = windowed-long P.1.5.1 P.1.1 P.1.5.3 P.1.4 P.1.5.4 states (V.base + 64) V.base (places_of want) P.1.5.7.held
 
-  pre-in : (P : TermPre st V want sums) → TermIn P.1.5.1 V.inverses st V.base want P.1.5.3
-  pre-in P = term-in P.1.5.1 (with_lists V P.1.0 P.1.1) P.1.5.2 P.1.4 P.1.5.4 st want P.1.5.5 P.1.5.3 P.1.5.7 P.0
+  pre-in : (P : TermScoresPre states V want sums) → TermIn P.1.5.1 V.inverses states V.base want P.1.5.3
+  pre-in P = term-in P.1.5.1 (with_lists V P.1.0 P.1.1) P.1.5.2 P.1.4 P.1.5.4 states want P.1.5.5 P.1.5.3 P.1.5.7 P.0
 
-  module _ (n : ScoreNode) (N : ScoreNodeIs st n) where
-    pub pre-number : TermPre st V want sums → n.constant ≡ 1 → T (not (nan_bits binary32 n.weight))
+  module _ (n : ScoreNode) (N : ScoreNodeIs states n) where
+    pub pre-number : TermScoresPre states V want sums → n.constant ≡ 1 → T (not (nan_bits binary32 n.weight))
     pre-number P e = (term-constant (pre-in P) n N e).0
 
     module _ (x : Float) (some-is : Some x ≡ constant_score n) where
-      pub pre-constant : TermPre st V want sums → ConstantPre x sums
+      pub pre-constant : TermScoresPre states V want sums → ConstantPre x sums
       pre-constant P =
           let k = constant-some n x some-is in
           (P.1.5.5, 1, (omega (arith, term-one (pre-in P), P.1.5.7.few), P.1.5.8), subst (λ (y : Float). AtMost (1 * 2 ^ 29) y) (sym k.1) (term-constant (pre-in P) n N k.0).1)
 
-      pub post-constant : get_or st 0 0 ≡ 1 → (sums' : List Float) → ConstantPost x want sums sums' → TermPost st V want sums sums'
-      post-constant k sums' h positions ranges a b depth max ix places S scores q L H K =
+      pub post-constant : get_or states 0 0 ≡ 1 → (sums' : List Float) → ConstantPost x want sums sums' → TermScoresPost states V want sums sums'
+      post-constant k sums' h positions ranges starts other_starts depth max ix places S scores q L H K =
           let c = constant-some n x some-is in
-          let i = term-in ix (with_lists V positions ranges) places depth scores st want q S H k in
+          let i = term-in ix (with_lists V positions ranges) places depth scores states want q S H k in
           let r = term-constant i n N c.0 in
           let small : AtMost (2 ^ 29) x = subst (λ (y : Float). AtMost (2 ^ 29) y) (sym c.1) r.1 in
           let z = h q 1 (omega (arith, term-one i, H.few), K) small in
-          leaf-added ix (with_lists V positions ranges) places S depth scores st want q sums sums' (term-one i) H K z.1.long (λ p. x) z.0 (λ p l e. (c.1 ∙ r.2 (V.base + p), small))
+          leaf-added ix (with_lists V positions ranges) places S depth scores states want q sums sums' (term-one i) H K z.1.long (λ p. x) z.0 (λ p l e. (c.1 ∙ r.2 (V.base + p), small))
 
-    module _ (words : (i : ℕ) → get_or st i 0 < 4294967296) (m : n.constant ≡ 1 → ⊥) (first bits : ℕ) (first-is : first ≡ n.first + get_or st 19 0) (bits-are : bits ≡ joined (get_or st 20 0) (get_or st 21 0)) where
-      pub pre-place : (P : TermPre st V want sums) (p : ℕ) → p < 64 → bit p want ≡ true → TermPlace n V.norms V.inverses V.postings first bits V.base p
-      pre-place P p l e = term-place P.1.5.1 P.1.5.0 (with_lists V P.1.0 P.1.1) P.1.5.2 P.1.2 P.1.3 want P.1.5.6 st n N words P.1.5.3 (pre-in P) first bits first-is bits-are p l e m
+    module _ (words : (i : ℕ) → get_or states i 0 < 4294967296) (m : n.constant ≡ 1 → ⊥) (first bits : ℕ) (first-is : first ≡ n.first + get_or states 19 0) (bits-are : bits ≡ two_words (get_or states 20 0) (get_or states 21 0)) where
+      pub pre-place : (P : TermScoresPre states V want sums) (p : ℕ) → p < 64 → bit p want ≡ true → TermPlace n V.norms V.inverses V.postings first bits V.base p
+      pre-place P p l e = term-place P.1.5.1 P.1.5.0 (with_lists V P.1.0 P.1.1) P.1.5.2 P.1.2 P.1.3 want P.1.5.6 states n N words P.1.5.3 (pre-in P) first bits first-is bits-are p l e m
 
-      pub post-weighted : get_or st 0 0 ≡ 1 → (sums' : List Float) → length sums' ≡ 64 → ((p : ℕ) → p < 64 → bit p want ≡ true → Bytes V.norms) → Added (term_score n V.norms V.inverses V.postings first bits V.base) want sums sums' → TermPost st V want sums sums'
-      post-weighted k sums' long bytes A positions ranges a b depth max ix places S scores q L H K =
-          let i = term-in ix (with_lists V positions ranges) places depth scores st want q S H k in
-          leaf-added ix (with_lists V positions ranges) places S depth scores st want q sums sums' (term-one i) H K long (term_score n V.norms V.inverses V.postings first bits V.base) A
-          (λ p l e. term-scores ix max (with_lists V positions ranges) places a b want L st n N words S i first bits first-is bits-are p l e m (bytes p l e))
+      pub post-weighted : get_or states 0 0 ≡ 1 → (sums' : List Float) → length sums' ≡ 64 → ((p : ℕ) → p < 64 → bit p want ≡ true → Bytes V.norms) → Added (term_score_at n V.norms V.inverses V.postings first bits V.base) want sums sums' → TermScoresPost states V want sums sums'
+      post-weighted k sums' long bytes A positions ranges starts other_starts depth max ix places S scores q L H K =
+          let i = term-in ix (with_lists V positions ranges) places depth scores states want q S H k in
+          leaf-added ix (with_lists V positions ranges) places S depth scores states want q sums sums' (term-one i) H K long (term_score_at n V.norms V.inverses V.postings first bits V.base) A
+          (λ p l e. term-scores ix max (with_lists V positions ranges) places starts other_starts want L states n N words S i first bits first-is bits-are p l e m (bytes p l e))

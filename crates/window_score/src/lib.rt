@@ -1,21 +1,23 @@
-// The scores of a window's documents: each node adds its own to the sums of the wanted documents, one node after the other, in the order
-// of the parts or in one that gives the same sums.
+// The scores of a window's documents: node by node, each adds its scores to the sums of the wanted documents, in the
+// order of the parts or in one that gives the same sums.
 #![tactic(auto)]
 
 ghost use Rattle.std.specs.Prelude.{◌≡◌, ◌≤◌, length, get_or};
 ghost use Rattle.meaning.specs.Limits.{node_state_words};
-ghost use Rattle.window_words.specs.Windowed.{joined};
-ghost use Rattle.leaf_scorer.specs.Calls.{lent_of};
-ghost use Rattle.leaf_scorer.specs.Buffers.{room, other_room, SameBuffers};
+ghost use Rattle.tree_weight.specs.declared.layout.TheConstants.{WINDOW_LOW, WINDOW_HIGH};
+ghost use Rattle.window_words.specs.Windowed.{two_words};
+ghost use Rattle.scorer_leaf.specs.Calls.{lists_of};
+ghost use Rattle.scorer_leaf.specs.Buffers.{room, other_room, SameBuffers};
 ghost use Rattle.window_leaf.specs.Asks.{BitsPre, BitsPost};
 ghost use Rattle.window_score.specs.Words.{StoredAre};
-ghost use Rattle.window_score.specs.Asked.{reads_of, ScoresPre, ScoresPost, RequiredPre, RequiredPost, OptionalPre, OptionalPost, BooleanPre, BooleanPost, RootPartsPre, RootPartsPost, RootGroupPre, RootGroupPost, only_child, SharedPre};
+ghost use Rattle.window_score.specs.Asked.{reads_of, ScoresPre, ScoresPost, RequiredScoresPre, RequiredScoresPost, OptionalScoresPre, OptionalScoresPost, BooleanScoresPre, BooleanScoresPost, RootPartsPre, RootPartsPost, RootGroupPre, RootGroupPost, only_child, SharedPre};
 
-use leaf_score::score_node_at;
-use leaf_scorer::PhraseBuffers;
-use node::{Boolean, NodeKind, boolean_at, child_at};
+use score_leaf::score_node_at;
+use scorer_leaf::PhraseBuffers;
 use sums::{add_constant, add_narrowed, join_after, narrow_sums};
-use weight::NODE_STATE_WORDS;
+use tree_node::{Boolean, NodeKind, boolean_at, child_at};
+use tree_weight::NODE_STATE_WORDS;
+use tree_weight::layout::{KIND, WINDOW_HIGH, WINDOW_LOW};
 use window_bits::child_bits;
 use window_leaf::Window;
 
@@ -24,65 +26,72 @@ pub mod root;
 pub mod sums;
 
 // The documents of the window that a child matches, as its record has them.
-fn stored_bits(st: &[u32]) -> u64
-    requires { node_state_words ≤ length st.now }
-    ensures { result ≡ joined (get_or st.now 20 0) (get_or st.now 21 0) }
+fn stored_bits(states: &[u32]) -> u64
+    requires { node_state_words ≤ length states.now }
+    ensures { result ≡ two_words (get_or states.now WINDOW_LOW 0) (get_or states.now WINDOW_HIGH 0) }
 {
-    bits::joined(st[20], st[21])
+    bits::joined(states[WINDOW_LOW], states[WINDOW_HIGH])
 }
 
-// Which of the wanted documents an optional child matches: its record has them, but where none is needed it is asked only now.
-// Kept: no plainer as one struct of the two, here and below: of them only `buffers` is lent for writing; with the window in it, each clause would
-// also say that it stays.
+// Which of the wanted documents an optional child matches: its record has them, or where none is needed it is asked
+// now.
+// Kept: no plainer as one struct of the two, here and below: of them only `buffers` is lent for writing; with the
+// window in it, each clause would also say that it stays.
 fn optional_child_bits(
-    st: &mut [u32],
+    states: &mut [u32],
     need: u32,
     window: &Window<'_>,
     buffers: &mut PhraseBuffers<'_>,
     want: u64,
     depth: u32,
 ) -> u64
-    requires long { node_state_words ≤ length st.old }
-    requires unneeded { need ≡ 0 → BitsPre (lent_of window.now.reader) (room buffers.old) (other_room buffers.old) st.old window.now.base want depth }
-    ensures unneeded { need ≡ 0 → BitsPost (lent_of window.now.reader) (room buffers.old) (other_room buffers.old) st.old window.now.base want depth result st.new }
-    ensures needed { (need ≡ 0 → ⊥) → StoredAre st.old want result st.new }
+    requires long { node_state_words ≤ length states.old }
+    requires unneeded { need ≡ 0
+        → BitsPre (lists_of window.now.reader) (room buffers.old) (other_room buffers.old) states.old
+        window.now.base want depth }
+    ensures unneeded { need ≡ 0
+        → BitsPost (lists_of window.now.reader) (room buffers.old) (other_room buffers.old)
+        states.old window.now.base want depth result states.new }
+    ensures needed { (need ≡ 0 → ⊥) → StoredAre states.old want result states.new }
     ensures same_buffers { SameBuffers buffers.old buffers.new }
 {
     if need == 0 {
-        return child_bits(st, window, buffers, want, depth);
+        return child_bits(states, window, buffers, want, depth);
     }
-    bits::both(want, stored_bits(st))
+    bits::both(want, stored_bits(states))
 }
 
 // The node's score is added to the sum of each wanted document, all of which it matches.
 #[cycle(boolean_scores_group_scores_node_scores_optional_scores_part_scores_required_scores_separate_scores_shared_scores)]
 pub fn node_scores(
-    st: &mut [u32],
+    states: &mut [u32],
     window: &Window<'_>,
     buffers: &mut PhraseBuffers<'_>,
     want: u64,
     sums: &mut [f64],
     depth: u32,
 )
-    requires { ScoresPre st.old (reads_of window.now) (room buffers.old) (other_room buffers.old) want sums.old depth }
-    ensures scores_post { ScoresPost st.old (reads_of window.now) (room buffers.old) (other_room buffers.old) want sums.old depth st.new sums.new }
+    requires { ScoresPre states.old (reads_of window.now) (room buffers.old)
+        (other_room buffers.old) want sums.old depth }
+    ensures scores_post { ScoresPost states.old (reads_of window.now) (room buffers.old)
+        (other_room buffers.old) want sums.old depth states.new sums.new }
     ensures same_buffers { SameBuffers buffers.old buffers.new }
 {
-    if let Some(score) = score_node_at(st).constant_score() {
+    if let Some(score) = score_node_at(states).constant_score() {
         add_constant(score, want, sums);
         return;
     }
-    match NodeKind::from(st[0]) {
+    match NodeKind::from(states[KIND]) {
         NodeKind::Term => {
-            leaf::term_scores(st, window, want, sums);
+            leaf::term_scores(states, window, want, sums);
         }
         NodeKind::Phrase => {
-            leaf::phrase_scores(st, window, buffers, want, sums);
+            leaf::phrase_scores(states, window, buffers, want, sums);
         }
         NodeKind::Boolean => {
-            let n = boolean_at(st);
+            let n = boolean_at(states);
             boolean_scores(
-                &mut st[NODE_STATE_WORDS..],
+                &mut states[NODE_STATE_WORDS..],
                 n,
                 window,
                 buffers,
@@ -102,9 +111,10 @@ fn is_only_child(parts: &[u32]) -> bool
     parts.get(1).copied().unwrap_or(0) as usize == parts.len()
 }
 
-// A Boolean has sums of its own, which are added to its parent's, narrowed. With no optional children, an only required child's score joins the
-// parent's sums as it is.
-// Kept: seven parameters: no plainer: `window_bits` takes `window` and `buffers` apart, and `want` and `sums` change from call to call, each by itself.
+// A Boolean has sums of its own, which are narrowed and added to its parent's. With no optional children, an only
+// required child's score joins the parent's sums as it is.
+// Kept: seven parameters: `window_bits` takes `window` and `buffers` apart, and `want` and `sums` change from call to
+// call, each by itself.
 #[cycle(boolean_scores_group_scores_node_scores_optional_scores_part_scores_required_scores_separate_scores_shared_scores)]
 fn boolean_scores(
     kids: &mut [u32],
@@ -115,8 +125,10 @@ fn boolean_scores(
     sums: &mut [f64],
     depth: u32,
 )
-    requires { BooleanPre kids.old n (reads_of window.now) (room buffers.old) (other_room buffers.old) want sums.old depth }
-    ensures boolean_post { BooleanPost kids.old n (reads_of window.now) (room buffers.old) (other_room buffers.old) want sums.old depth kids.new sums.new }
+    requires { BooleanScoresPre kids.old n (reads_of window.now) (room buffers.old)
+        (other_room buffers.old) want sums.old depth }
+    ensures boolean_post { BooleanScoresPost kids.old n (reads_of window.now) (room buffers.old)
+        (other_room buffers.old) want sums.old depth kids.new sums.new }
     ensures same_buffers { SameBuffers buffers.old buffers.new }
 {
     let end = n.required_end;
@@ -129,8 +141,8 @@ fn boolean_scores(
     add_narrowed(&own, want, sums);
 }
 
-// A Boolean's children, into sums that are 0: into these alone where that can be. Inlined at both calls, as `separate_scores` at its own: one
-// call more for each Boolean of a window costs a deep tree a twentieth.
+// A Boolean's children, into sums that are 0, and into no others where that can be. Inlined at both calls, as is
+// `separate_scores`: one call more for each Boolean of a window costs a deep tree a twentieth.
 // Kept: seven parameters, as in `boolean_scores`.
 #[inline(always)]
 #[cycle(boolean_scores_group_scores_node_scores_optional_scores_part_scores_required_scores_separate_scores_shared_scores)]
@@ -143,8 +155,10 @@ fn part_scores(
     sums: &mut [f64],
     depth: u32,
 )
-    requires { RootPartsPre kids.old n (reads_of window.now) (room buffers.old) (other_room buffers.old) want sums.old depth }
-    ensures root_parts_post { RootPartsPost kids.old n (reads_of window.now) (room buffers.old) (other_room buffers.old) want sums.old depth kids.new sums.new }
+    requires { RootPartsPre kids.old n (reads_of window.now) (room buffers.old)
+        (other_room buffers.old) want sums.old depth }
+    ensures root_parts_post { RootPartsPost kids.old n (reads_of window.now) (room buffers.old)
+        (other_room buffers.old) want sums.old depth kids.new sums.new }
     ensures same_buffers { SameBuffers buffers.old buffers.new }
 {
     let end = n.required_end;
@@ -193,8 +207,10 @@ fn separate_scores(
     sums: &mut [f64],
     depth: u32,
 )
-    requires { RootPartsPre kids.old n (reads_of window.now) (room buffers.old) (other_room buffers.old) want sums.old depth }
-    ensures root_parts_post { RootPartsPost kids.old n (reads_of window.now) (room buffers.old) (other_room buffers.old) want sums.old depth kids.new sums.new }
+    requires { RootPartsPre kids.old n (reads_of window.now) (room buffers.old)
+        (other_room buffers.old) want sums.old depth }
+    ensures root_parts_post { RootPartsPost kids.old n (reads_of window.now) (room buffers.old)
+        (other_room buffers.old) want sums.old depth kids.new sums.new }
     ensures same_buffers { SameBuffers buffers.old buffers.new }
 {
     let end = n.required_end;
@@ -221,8 +237,8 @@ fn separate_scores(
     );
 }
 
-// Required children and a group that joins after them, one of the two an only child, into sums that are 0: the sum of the other is
-// narrowed first, and the only child's score is added to it.
+// Required children and a group that joins after them, one of the two an only child, into sums that are 0: the sum of
+// the other is narrowed first, and the only child's score is added to it.
 // Kept: seven parameters, as in `boolean_scores`.
 #[cycle(boolean_scores_group_scores_node_scores_optional_scores_part_scores_required_scores_separate_scores_shared_scores)]
 fn shared_scores(
@@ -234,9 +250,11 @@ fn shared_scores(
     sums: &mut [f64],
     depth: u32,
 )
-    requires parts { RootPartsPre kids.old n (reads_of window.now) (room buffers.old) (other_room buffers.old) want sums.old depth }
+    requires parts { RootPartsPre kids.old n (reads_of window.now) (room buffers.old)
+        (other_room buffers.old) want sums.old depth }
     requires only_child { SharedPre kids.old n }
-    ensures root_parts_post { RootPartsPost kids.old n (reads_of window.now) (room buffers.old) (other_room buffers.old) want sums.old depth kids.new sums.new }
+    ensures root_parts_post { RootPartsPost kids.old n (reads_of window.now) (room buffers.old)
+        (other_room buffers.old) want sums.old depth kids.new sums.new }
     ensures same_buffers { SameBuffers buffers.old buffers.new }
 {
     let end = n.required_end;
@@ -252,7 +270,8 @@ fn shared_scores(
     required_scores(&mut kids[..end], window, buffers, want, sums, depth);
 }
 
-// The required children, into sums that are 0: the group, whose sums are given, joins as one more, or after theirs are narrowed.
+// The required children, into sums that are 0; the group, whose sums are given, joins as one more summand, or after
+// their sums are narrowed.
 // Kept: eight parameters, as in `boolean_scores`, and the group's sums.
 #[cycle(boolean_scores_group_scores_node_scores_optional_scores_part_scores_required_scores_separate_scores_shared_scores)]
 fn group_scores(
@@ -265,8 +284,10 @@ fn group_scores(
     sums: &mut [f64],
     depth: u32,
 )
-    requires { RootGroupPre kids.old n group.now (reads_of window.now) (room buffers.old) (other_room buffers.old) want sums.old depth }
-    ensures root_group_post { RootGroupPost kids.old n group.now (reads_of window.now) (room buffers.old) (other_room buffers.old) want sums.old depth kids.new sums.new }
+    requires { RootGroupPre kids.old n group.now (reads_of window.now) (room buffers.old)
+        (other_room buffers.old) want sums.old depth }
+    ensures root_group_post { RootGroupPost kids.old n group.now (reads_of window.now)
+        (room buffers.old) (other_room buffers.old) want sums.old depth kids.new sums.new }
     ensures same_buffers { SameBuffers buffers.old buffers.new }
 {
     if n.afterwards {
@@ -290,12 +311,14 @@ fn required_scores(
     sums: &mut [f64],
     depth: u32,
 )
-    requires { RequiredPre kids.old (reads_of window.now) (room buffers.old) (other_room buffers.old) want sums.old depth }
-    ensures required_post { RequiredPost kids.old (reads_of window.now) (room buffers.old) (other_room buffers.old) want sums.old depth kids.new sums.new }
+    requires { RequiredScoresPre kids.old (reads_of window.now) (room buffers.old)
+        (other_room buffers.old) want sums.old depth }
+    ensures required_post { RequiredScoresPost kids.old (reads_of window.now) (room buffers.old)
+        (other_room buffers.old) want sums.old depth kids.new sums.new }
     ensures same_buffers { SameBuffers buffers.old buffers.new }
 {
     let mut at = 0;
-    // Kept: no plainer: parts differ in length and are lent for writing, so an iterator would hold `kids` and `at` itself.
+    // Kept: parts differ in length and are lent for writing, so an iterator would hold `kids` and `at` itself.
     while at < kids.len() {
         let k = child_at(kids, at);
         let end = k.end;
@@ -313,7 +336,7 @@ fn required_scores(
     }
 }
 
-// The scores of the optional children at those of the wanted documents that they match; where none is needed they are asked only now.
+// The scores of the optional children at the wanted documents that they match; where none is needed they are asked now.
 // Kept: seven parameters, as in `boolean_scores`.
 #[cycle(boolean_scores_group_scores_node_scores_optional_scores_part_scores_required_scores_separate_scores_shared_scores)]
 fn optional_scores(
@@ -325,12 +348,14 @@ fn optional_scores(
     sums: &mut [f64],
     depth: u32,
 )
-    requires { OptionalPre kids.old need (reads_of window.now) (room buffers.old) (other_room buffers.old) want sums.old depth }
-    ensures optional_post { OptionalPost kids.old need (reads_of window.now) (room buffers.old) (other_room buffers.old) want sums.old depth kids.new sums.new }
+    requires { OptionalScoresPre kids.old need (reads_of window.now) (room buffers.old)
+        (other_room buffers.old) want sums.old depth }
+    ensures optional_post { OptionalScoresPost kids.old need (reads_of window.now) (room buffers.old)
+        (other_room buffers.old) want sums.old depth kids.new sums.new }
     ensures same_buffers { SameBuffers buffers.old buffers.new }
 {
     let mut at = 0;
-    // Kept: no plainer: parts differ in length and are lent for writing, so an iterator would hold `kids` and `at` itself.
+    // Kept: parts differ in length and are lent for writing, so an iterator would hold `kids` and `at` itself.
     while at < kids.len() {
         let k = child_at(kids, at);
         let end = k.end;

@@ -8,7 +8,8 @@ use bits::SetBits;
 use ieee754::{add_score, narrow};
 
 // The sum at each wanted place becomes what `changed` makes of it there; the others stay.
-// Kept: a rule of the project: a contract asks no more than it did; who calls `term_scores` and the like may lend any slice that is 64 long.
+// Kept: a rule of the project: a contract asks no more than it did; who calls `term_scores` and the like may lend any
+// slice that is 64 long.
 #[inline(always)]
 pub(crate) fn change_sums<F: FnMut(f64, u32) -> f64>(want: u64, sums: &mut [f64], changed: &mut F)
     requires { ChangePre F.pre F.step changed.old want sums.old }
@@ -29,7 +30,7 @@ fn both(required: f64, group: f64) -> f64
     add_score(narrow(required) as f64, narrow(group))
 }
 
-// The same score for each.
+// Adds the same score to each wanted sum.
 pub fn add_constant(score: f32, want: u64, sums: &mut [f64])
     requires { ConstantPre score sums.old }
     ensures { ConstantPost score want sums.old sums.new }
@@ -37,7 +38,7 @@ pub fn add_constant(score: f32, want: u64, sums: &mut [f64])
     change_sums(want, sums, &mut |sum, _| add_score(sum, score));
 }
 
-// A Boolean's own sums, narrowed.
+// Adds a Boolean's own sums, narrowed, to the wanted sums.
 pub fn add_narrowed(own: &[f64], want: u64, sums: &mut [f64])
     requires { NarrowedPre own.now sums.old }
     ensures { NarrowedPost own.now want sums.old sums.new }
@@ -49,7 +50,7 @@ pub fn add_narrowed(own: &[f64], want: u64, sums: &mut [f64])
     );
 }
 
-// Each sum is narrowed, but where it is of an only child's score: that is an f32 as it is.
+// Narrows each wanted sum, unless it is of an only child's score, which is an f32 already.
 pub fn narrow_sums(only_child: bool, want: u64, sums: &mut [f64])
     requires { NarrowSumsPre sums.old }
     ensures { NarrowSumsPost only_child want sums.old sums.new }
@@ -67,7 +68,7 @@ pub fn narrow_sums(only_child: bool, want: u64, sums: &mut [f64])
     );
 }
 
-// Each sum is narrowed, and the group's, narrowed too, is added to it.
+// Narrows each wanted sum and adds the group's sum, narrowed too.
 pub fn join_after(group: &[f64], want: u64, sums: &mut [f64])
     requires { AfterPre group.now sums.old }
     ensures { AfterPost group.now want sums.old sums.new }

@@ -1,14 +1,16 @@
--- The words of a tree that is asked by windows: what is known still holds at a larger bound and of fewer places, may be forgotten before the next window, and gives the words' number, the record's words and what the other questions go by. Assumes nothing.
-use Rattle.std.proofs.Common.{◌≡◌, refl, sym, ap, ◌∙◌, Bool, true, false, cond, ◌&&◌, List, [], ◌∷◌, ◌++◌, ℕ, ◌+◌, ◌-◌, ◌*◌, ◌≤◌, ◌<◌, min, max, ltb, length, get_or, le_refl, le_trans, lt_of_lt_of_le, length-append, arith}
+-- The words of a tree asked by windows: what is known of them holds at a larger bound and of fewer places, may be
+-- forgotten before the next window, and gives the record and the parts. Assumes nothing.
+use Rattle.std.proofs.Common.{◌≡◌, refl, sym, ap, ◌∙◌, Bool, true, false, cond, ◌&&◌, List, [], ◌∷◌, ◌++◌, ℕ, ◌+◌, ◌-◌, ◌*◌, ◌≤◌, ◌<◌, min, max, ltb, length, get_or, le_refl, le_trans, length-append, arith}
 use Rattle.std.proofs.lemmas.Bool.{false≢true, and_parts}
 use Rattle.meaning.specs.Limits.{node_state_words}
 use Rattle.meaning.specs.Lent.{Index}
 use Rattle.meaning.specs.Phrase.{PhraseTerm, phrase_frequency}
 use Rattle.bits.specs.Bit.{bit}
-use Rattle.weight.specs.ScorerTree.{Leaf, nothing, term, phrase, range, everything, Scoring, Scorer, leaf, boolean, Scorers, end, more, leaf_matches, matches}
-use Rattle.weight.specs.State.{State, words_of, leaf_size, size_of, sizes_of}
-use Rattle.weight.specs.Held.{Cache, RunAt, TermIs, TermsAre, LeafIs, Ok, Oks}
-use Rattle.window_words.specs.Windowed.{Places, nowhere, joined, Stored, TermAsked, TermsWindowed, phrase_places, LeafWindowed, required_places, optional_places, optional_bound, Windowed, AllWindowed}
+use Rattle.tree_weight.specs.ScorerTree.{Leaf, nothing, term, phrase, range, everything, Scoring, Scorer, leaf, boolean, Scorers, end, more, leaf_matches, matches}
+use Rattle.tree_weight.specs.State.{State, words_of, leaf_size, size_of, sizes_of}
+use Rattle.tree_weight.specs.Held.{Cache, TermsAre, LeafIs, Ok, Oks}
+use Rattle.tree_weight.proofs.Terms.{term-mono}
+use Rattle.window_words.specs.Windowed.{Places, nowhere, two_words, Stored, TermAsked, TermsWindowed, phrase_places, LeafWindowed, required_places, optional_places, optional_bound, Windowed, AllWindowed}
 
 -- the places of D' are all among those of D
 abbrev pub Among : Places → Places → Type 0
@@ -17,22 +19,6 @@ Among D' D = (p : ℕ) → p < 64 → D' p ≡ true → D p ≡ true
 -- where the places of D' of the window at f are asked, that window is the one at base, and D has them
 abbrev Kept : ℕ → Places → ℕ → Places → Type 0
 Kept base D f D' = (p : ℕ) → p < 64 → D' p ≡ true → (f ≡ base) × (D p ≡ true)
-
--- ---- a larger bound asks less
-run-mono : {doc : ℕ → ℕ} {n u b e : ℕ} → b ≤ e → RunAt doc n u b → RunAt doc n u e
-run-mono h p = record { within = p.within; passed = λ i g. lt_of_lt_of_le (p.passed i g) h }
-
-term-mono : (ix : Index) (k l : ℕ) (s : State) (b e : ℕ) → b ≤ e → TermIs ix k l s b → TermIs ix k l s e
-term-mono ix k l s b e h p =
-    record {
-      kind-is = p.kind-is;
-      size_is = p.size_is;
-      first-is = p.first-is;
-      number_is = p.number_is;
-      field_is = p.field_is;
-      norms-is = p.norms-is;
-      run = run-mono h p.run;
-    }
 
 -- ---- the places that are kept, of those where something matches, and under a condition
 and-joined : {a b : Bool} → a ≡ true → b ≡ true → (a && b) ≡ true
@@ -187,6 +173,14 @@ kind_of (leaf (range r) sc) = 4
 kind_of (leaf everything sc) = 5
 kind_of (boolean c j need rs os ps) = 3
 
+pub leaf-no-boolean : (l : Leaf) (sc : Scoring) → kind_of (leaf l sc) ≡ 3 → ⊥
+unfolding kind_of
+leaf-no-boolean nothing sc e = omega (arith, e)
+leaf-no-boolean (term l) sc e = omega (arith, e)
+leaf-no-boolean (phrase f ts) sc e = omega (arith, e)
+leaf-no-boolean (range r) sc e = omega (arith, e)
+leaf-no-boolean everything sc e = omega (arith, e)
+
 record Front (P : ℕ → Bool) (kind size o base : ℕ) (D : Places) (y : List ℕ) : Type 0 where
   state : State
   behind : List ℕ
@@ -225,24 +219,10 @@ module _ (ix : Index) (R : List ℕ) (s : Scorer) (k o : ℕ) (y : List ℕ) (b 
   pub windowed-scores : get_or y 15 0 ≡ o
   windowed-scores = ap (λ (l : List ℕ). get_or l 15 0) head.is ∙ head.scores-is
 
-  pub windowed-bits : (q : ℕ) → q < 64 → D q ≡ true → bit q (joined (get_or y 20 0) (get_or y 21 0)) ≡ matches ix s (base + q)
-  windowed-bits q g e = ap (λ (l : List ℕ). bit q (joined (get_or l 20 0) (get_or l 21 0))) head.is ∙ head.stored q g e
+  pub windowed-bits : (q : ℕ) → q < 64 → D q ≡ true → bit q (two_words (get_or y 20 0) (get_or y 21 0)) ≡ matches ix s (base + q)
+  windowed-bits q g e = ap (λ (l : List ℕ). bit q (two_words (get_or l 20 0) (get_or l 21 0))) head.is ∙ head.stored q g e
 
 -- a node that is neither a phrase nor a Boolean: its part is one record
-kind-single : (s : Scorer) → (kind_of s ≡ 2 → ⊥) → (kind_of s ≡ 3 → ⊥) → size_of s ≡ node_state_words
-unfolding kind_of size_of leaf_size
-kind-single (leaf nothing sc) n m = refl
-kind-single (leaf (term l) sc) n m = refl
-kind-single (leaf (phrase f ts) sc) n m = absurd (n refl)
-kind-single (leaf (range r) sc) n m = refl
-kind-single (leaf everything sc) n m = refl
-kind-single (boolean c j need rs os ps) n m = absurd (m refl)
-
-pub windowed-single : (ix : Index) (R : List ℕ) (s : Scorer) (k o : ℕ) (y : List ℕ) (b base : ℕ) (D : Places) → Windowed ix R s k o y b base D → (get_or y 0 0 ≡ 2 → ⊥) → (get_or y 0 0 ≡ 3 → ⊥) → length y ≡ node_state_words
-windowed-single ix R s k o y b base D p n m =
-    let e = windowed-kind ix R s k o y b base D p in
-    windowed-length ix R s k o y b base D p ∙ kind-single s (λ h. n (e ∙ h)) (λ h. m (e ∙ h))
-
 -- ---- the words of a tree that is asked by documents
 terms-are : (ix : Index) (ts : List PhraseTerm) (w : List ℕ) (b base : ℕ) (D : Places) (e : ℕ) → b ≤ e → TermsWindowed ix ts w b base D → TermsAre ix ts w e
 unfolding TermsWindowed TermsAre

@@ -1,9 +1,10 @@
--- The parts of some children, one after the other, each with something known of it, and a walk along them: what is known of the children passed and of those left, and a part put back. Assumes nothing.
+-- The parts of some children, one after the other, each with something known of it, and a walk along them: what is
+-- known of the children passed and of those left, and a part put back. Assumes nothing.
 use Rattle.std.proofs.Common.{◌≡◌, refl, sym, ap, subst, ◌∙◌, Bool, cond, List, [], ◌++◌, ℕ, ◌+◌, ◌-◌, ◌≤◌, ◌<◌, length, get_or, take, drop, append_assoc, append-nil, length-append, length-take, length-drop, take_at, drop_at, get_or-append-add, arith}
 use lib.ListN.{get_or-append}
 use Rattle.meaning.specs.Lent.{Index}
-use Rattle.weight.specs.ScorerTree.{Scorer, Scorers, end, more}
-use Rattle.weight.specs.Sound.{Sound, Sounds}
+use Rattle.tree_weight.specs.ScorerTree.{Scorer, Scorers, end, more}
+use Rattle.tree_weight.specs.Sound.{Sound, Sounds}
 use Rattle.window_words.specs.Windowed.{Places, Windowed, AllWindowed}
 
 -- what may be known of a child: whether it scores, its scorer, the words of its part
@@ -97,9 +98,6 @@ module _ {P Q : Part} {ss : Scorers} {kids : List ℕ} where
   pub zip-front-map : {Q' : Part} → ((f : Bool) (s : Scorer) (y : List ℕ) → Q f s y → Q' f s y) → {g : Scorers} {at : ℕ} → Zip P Q ss g kids at → Zip P Q' ss g kids at
   zip-front-map m q = record { h = q.h; whole = q.whole; x = q.x; z = q.z; is = q.is; place = q.place; front = each-map m q.h q.x q.front; rest = q.rest }
 
-  pub zip-rest-map : {P' : Part} → ((f : Bool) (s : Scorer) (y : List ℕ) → P f s y → P' f s y) → {g : Scorers} {at : ℕ} → Zip P Q ss g kids at → Zip P' Q ss g kids at
-  zip-rest-map m {g} q = record { h = q.h; whole = q.whole; x = q.x; z = q.z; is = q.is; place = q.place; front = q.front; rest = each-map m g q.z q.rest }
-
   -- the walk stops here: what is known of those left serves for those passed
   pub zip-stop : ((f : Bool) (s : Scorer) (y : List ℕ) → P f s y → Q f s y) → {g : Scorers} {at : ℕ} → Zip P Q ss g kids at → Each Q ss kids
   zip-stop m {g} q = rw (sym q.whole, q.is) (each-append Q q.h g q.x q.z q.front (each-map m g q.z q.rest))
@@ -154,9 +152,6 @@ module _ {P Q : Part} {ss : Scorers} {f : Bool} {s : Scorer} {g : Scorers} {kids
     -- what is known of the part that is lent
     pub part-held : P f s (take (e - at) (drop at kids))
     part-held = subst (P f s) (sym part) v.part-is
-
-    pub part-fits : e ≤ length kids
-    part-fits = omega (arith, stop, v.fits)
 
     pub part-back : (ys : List ℕ) → take at kids ++ (ys ++ drop (e - at) (drop at kids)) ≡ v.x ++ (ys ++ v.z)
     part-back ys = rw (v.is, take_at v.x (v.y ++ v.z) at v.place, drop_at v.x (v.y ++ v.z) at v.place, drop_at v.y v.z (e - at) (sym span))

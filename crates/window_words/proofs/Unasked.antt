@@ -1,11 +1,12 @@
--- The words of a tree that was not asked yet, as they are written: its records and children's parts, and that it stands with more levels left too. Assumes nothing.
+-- The words of a tree that was not asked yet, as they are written: its records and children's parts, and that it stands
+-- with more levels left too. Assumes nothing.
 use Rattle.std.proofs.Common.{◌≡◌, refl, sym, subst, Bool, true, false, cond, List, [], ◌∷◌, ℕ, ◌-◌, ◌≤◌, ltb, arith}
 use Rattle.std.proofs.lemmas.Bool.{false≢true, and_parts}
 use Rattle.meaning.specs.Lent.{Index}
 use Rattle.meaning.specs.Phrase.{PhraseTerm}
-use Rattle.weight.specs.ScorerTree.{Scorer, leaf, boolean, Scorers, end, more}
-use Rattle.weight.specs.State.{State}
-use Rattle.weight.specs.Held.{TermsAre}
+use Rattle.tree_weight.specs.ScorerTree.{Scorer, leaf, boolean, Scorers, end, more}
+use Rattle.tree_weight.specs.State.{State}
+use Rattle.tree_weight.specs.Held.{TermsAre}
 use Rattle.window_words.specs.Windowed.{Places, nowhere, Stored, TermAsked, TermsWindowed, required_places, optional_places, optional_bound, Windowed, AllWindowed}
 use Rattle.window_words.proofs.Laws.{all-less}
 
@@ -37,7 +38,8 @@ optional-unasked ix R s need os k v b p =
     let D = optional_places ix s need b nowhere in
     subst (λ (c : ℕ). AllWindowed ix R os k v c b nowhere) (sym (one_bound (ltb 0 need) b)) (all-less ix R os k v (optional_bound need b b) b D nowhere (λ q g e. absurd (false≢true e)) p)
 
--- ---- words that hold a tree with some levels left hold it with more, as below a Boost or a ConstantScore, which have no record
+-- ---- words that hold a tree with some levels left hold it with more, as below a Boost or a ConstantScore, which have
+-- no record
 module _ (ix : Index) (R : List ℕ) where
   mutual
     unfolding Windowed

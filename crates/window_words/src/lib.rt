@@ -1,2 +1,3 @@
-// The words of a scorer tree that is asked by windows of 64 documents, as definitions, and the laws of them.
+// What the words of a scorer tree hold while it is asked window by window of 64 documents: definitions and laws, no
+// code.
 #![tactic(auto)]

@@ -18,7 +18,7 @@ const OUTPUTS: [&str; 4] = [
     "written_runs",
 ];
 
-/// Every third call is a row; crates/token_vectors has them all.
+/// Every third call is a row; crates/vectors_tokens has them all.
 const EVERY: usize = 3;
 
 /// Some of the calls by hand and of the damaged ones, and a generated one for every 48 rows of other

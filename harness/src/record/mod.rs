@@ -1,4 +1,4 @@
-//! What the programs of vectors (crates/*_vectors) have to print, worked out outside of our code: by
+//! What the programs of vectors (crates/vectors_*) have to print, worked out outside of our code: by
 //! the unchanged Rust where it has the function, and else by Rust's own IEEE 754 operations or by the
 //! judges that are written from the texts. Both sides make the inputs by the same short rules.
 mod collector;
@@ -19,25 +19,25 @@ pub type Recorded = (&'static str, String);
 
 pub fn all() -> Vec<Recorded> {
     vec![
-        ("ieee754_vectors", ieee754::text()),
-        ("sim_vectors", sim::text()),
-        ("doc_values_vectors", doc_values::text()),
-        ("phrase_vectors", phrase::text()),
-        ("collector_vectors", collector::text()),
-        ("refusal_vectors", refusal::text()),
-        ("search_vectors", search::text()),
-        ("token_vectors", tokens::text()),
+        ("vectors_ieee754", ieee754::text()),
+        ("vectors_sim", sim::text()),
+        ("vectors_doc_values", doc_values::text()),
+        ("vectors_phrase", phrase::text()),
+        ("vectors_collector", collector::text()),
+        ("vectors_refusals", refusal::text()),
+        ("vectors_search", search::text()),
+        ("vectors_tokens", tokens::text()),
     ]
 }
 
 /// The files that programs read, by their paths below the folder of crates.
 pub fn data() -> Vec<(String, Vec<u8>)> {
     let mut files = vec![
-        ("refusal_vectors/data/cases.rec".into(), refusal::data()),
-        ("token_vectors/data/rows.rec".into(), tokens::data()),
+        ("vectors_refusals/data/cases.rec".into(), refusal::data()),
+        ("vectors_tokens/data/rows.rec".into(), tokens::data()),
     ];
     for (i, bytes) in (1..).zip(search::data()) {
-        files.push((format!("search_vectors/data/cases{i}.rec"), bytes));
+        files.push((format!("vectors_search/data/cases{i}.rec"), bytes));
     }
     files
 }

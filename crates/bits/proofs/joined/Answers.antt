@@ -1,3 +1,4 @@
+-- The high half is times 2^32: below bit 32 stand the low half's bits, from bit 32 on the high half's.
 use Rattle.std.proofs.Common.{◌≡◌, ap, ◌∙◌, ℕ, ◌+◌, ◌*◌, ◌^◌, arith}
 use Rattle.bits.specs.Bit.{bit}
 use Rattle.bits.proofs.Laws.{bit-low, bit-high}

@@ -9,7 +9,7 @@ use Rattle.bulk_term.proofs.collect_term.Goals as goal
 use Rattle.bulk_term.proofs.collect_term.Goals.{After-score_node_at-n, In-loop-doc, then-is_live, else-is_live}
 
 root : (c : After-score_node_at-n) → RootAt c.args.reader.now c.score_node_at-n.result c.args.doc_base
-root c = asked-root c.args.reader.now c.score_node_at-n.result c.args.st.now c.args.doc_base c.args.c c.args.heap.now c.requires c.score_node_at-n.ensures
+root c = asked-root c.args.reader.now c.score_node_at-n.result c.args.states.now c.args.doc_base c.args.c c.args.heap.now c.requires c.score_node_at-n.ensures
 
 posting : (c : In-loop-doc) → RootAt c.args.reader.now c.score_node_at-n.result c.args.doc_base → PostingIs c.args.reader.now c.score_node_at-n.result c.loop-doc.doc-index (get_or (get_or c.as_chunks.result.0.now c.loop-doc.doc-index []) 0 0) (get_or (get_or c.as_chunks.result.0.now c.loop-doc.doc-index []) 1 0)
 posting c w = posting-read w c.as_chunks.result.0.now c.as_chunks.ensures.front c.loop-doc.doc-index (omega (arith, c.loop-doc-test.true, c.as_chunks.ensures.front_len))
@@ -18,7 +18,7 @@ pub score_node_at-n-requires : goal.score_node_at-n-requires
 score_node_at-n-requires c =
     let r = c.args.reader.now in
     let q = c.requires in
-    root-words q.0 r.norms.now r.live.now r.inverses.now q.5.2.0 q.1 q.5.2.1 q.2 q.5.2.2 c.args.st.now q.5.2.3
+    root-words q.0 r.norms.now r.live.now r.inverses.now q.5.2.0 q.1 q.5.2.1 q.2 q.5.2.2 c.args.states.now q.5.2.3
 
 pub slice_bounds-as_chunks-end : goal.slice_bounds-as_chunks-end
 slice_bounds-as_chunks-end c = omega (arith, (root (goal.at.slice_bounds-as_chunks-end c).After-score_node_at-n).ends)
@@ -59,4 +59,4 @@ returns c =
     let n = c.score_node_at-n.result in
     let ends = (root (goal.at.returns c).After-score_node_at-n).ends in
     let past : n.number ≤ c.loop-doc.doc-index = omega (arith, c.loop-doc-test.false, c.as_chunks.ensures.front_len, run_length c.args.reader.now.postings.now n.first n.number ends) in
-    λ E places depth same. term-done c.loop-doc.invariant past c.args.st.now c.score_node_at-n.ensures c.requires.4 E places depth same
+    λ E places depth same. term-done c.loop-doc.invariant past c.args.states.now c.score_node_at-n.ensures c.requires.4 E places depth same

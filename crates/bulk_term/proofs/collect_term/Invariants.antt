@@ -1,4 +1,4 @@
--- The postings before the loop's place are passed.
+-- The live documents of the postings before this one are collected.
 use Rattle.bulk_term.proofs.TermRoot.{TermsAt}
 use Rattle.bulk_term.proofs.collect_term.Given as goal
 

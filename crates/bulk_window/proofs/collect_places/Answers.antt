@@ -1,11 +1,11 @@
--- The set places one after the other.
+-- Each turn collects the document at the lowest place that is left, with its sum narrowed, and sets the sum to 0.
 use Rattle.std.proofs.Common.{◌≡◌, refl, ap, subst, ◌∙◌, ◌+◌, ℕ, get_or}
 use Rattle.std.specs.Prelude.{Float}
 use Rattle.std.specs.Float.{nan, binary64}
 use Rattle.std.specs.Float.Ieee.{of_bits}
 use Rattle.meaning.specs.Ieee754.{zero_float, narrow}
 use Rattle.collector.specs.Collected.{Extended}
-use Rattle.leaf_score.proofs.Bounds.{zero-64}
+use Rattle.score_leaf.proofs.Bounds.{zero-64}
 use Rattle.window_score.proofs.Adding.{adding-start, adding-step, adding-done, sum-waits}
 use Rattle.bulk_window.proofs.Places.{places-start, places-ready, places-take, places-done}
 use Rattle.bulk_window.proofs.collect_places.Goals as goal

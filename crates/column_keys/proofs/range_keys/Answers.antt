@@ -1,3 +1,4 @@
+-- A range lets in the keys of numbers that both its ends let in; where an end is no number, none.
 use Rattle.std.proofs.Common.{ap₂, ◌∙◌, ◌%◌, ◌/◌, ◌&&◌}
 use Rattle.column_keys.specs.Keys.{type_number}
 use Rattle.column_keys.proofs.KeyOrder.{good-of, lower-of, upper-of, range-common}

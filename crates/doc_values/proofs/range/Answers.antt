@@ -1,3 +1,4 @@
+-- The scan lists the documents that are let in, and these are the range's.
 use Rattle.std.proofs.Common.{◌≡◌, refl, sym, ap, ◌∙◌, List, ℕ, length}
 use Rattle.meaning.specs.Below.{list_below}
 use Rattle.meaning.specs.Entries.{written}

@@ -1,3 +1,4 @@
+-- The scan sets the bits of the documents that are let in, and these are the range's.
 use Rattle.std.proofs.Common.{ap, ◌∙◌, ℕ, length}
 use Rattle.meaning.specs.Below.{list_below}
 use Rattle.index.specs.Ranges.{asked}

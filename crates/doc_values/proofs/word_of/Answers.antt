@@ -1,3 +1,4 @@
+-- Each turn shifts the word by one and puts the document at hand into its lowest bit, from the last one back.
 use Rattle.std.proofs.Common.{◌≡◌, sym, ap, ap₂, ◌∙◌, Bool, ◌&&◌, ℕ, ◌+◌, ◌-◌, ltb, arith, le-ltb}
 use Rattle.bits.proofs.Laws.{bit-zero}
 use Rattle.doc_values.proofs.Bitmaps.{one-more}

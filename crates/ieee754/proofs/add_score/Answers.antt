@@ -1,4 +1,4 @@
--- `ieee754::add_score` meets its contract: one addition in binary64. Assumes nothing.
+-- One addition in binary64.
 use Rattle.std.proofs.Common.{refl}
 use Rattle.ieee754.proofs.add_score.Goals as goal
 

@@ -1,4 +1,4 @@
--- `ieee754::length_to_f32` meets its contract: std's function has the same. Assumes nothing.
+-- std's conversion rounds the length as the definition does.
 use Rattle.std.proofs.Common.{ℕ, ap, refl, ◌∙◌}
 use lib.IntN.{pos}
 use lib.Ieee.{binary32, of_int}

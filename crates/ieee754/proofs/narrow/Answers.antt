@@ -1,4 +1,4 @@
--- `narrow` meets its contract: the three steps give what `narrow` of the definitions gives. Assumes nothing.
+-- The steps give what `narrow` of the definitions gives.
 use mathlib.Core.Path.{◌∙◌}
 use Rattle.ieee754.proofs.InSteps.{in-steps-all}
 use Rattle.ieee754.proofs.narrow.Goals as goal

@@ -1,4 +1,4 @@
--- `ieee754::next_up` meets its contract: std's tests the pattern, and says the same. Assumes nothing.
+-- std's function tests the pattern, and says the same.
 use Rattle.std.proofs.Common.{sym, ◌∙◌, subst, T}
 use Rattle.ieee754.proofs.Successor.{next-up-std}
 use Rattle.ieee754.proofs.next_up.Goals as goal

@@ -1,4 +1,4 @@
--- `ieee754::total_below` meets its contract: totalOrder is the order of the keys. Assumes nothing.
+-- totalOrder is the order of the keys.
 use mathlib.Core.Path.{sym, ap, ◌∙◌}
 use Prim.Native.Nat.{ℕ}
 use native.Mathlib.Omega.{arith}

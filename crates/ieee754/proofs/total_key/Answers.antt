@@ -1,4 +1,4 @@
--- `ieee754::total_key` meets its contract: `proofs/TotalOrder.antt` has a law for each branch. Assumes nothing.
+-- A pattern with a clear sign bit gets it set, any other is inverted: `TotalOrder` has a law for each.
 use Rattle.ieee754.proofs.TotalOrder.{key-clear, key_set}
 use Rattle.ieee754.proofs.total_key.Goals as goal
 

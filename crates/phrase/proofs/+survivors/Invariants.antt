@@ -1,3 +1,4 @@
+-- Each call has fewer terms left, so the recursion ends.
 use Rattle.std.proofs.Common.{◌-◌, length}
 use Rattle.phrase.proofs.+survivors.Given as goal
 

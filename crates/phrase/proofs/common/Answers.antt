@@ -5,7 +5,7 @@ use Rattle.meaning.specs.Phrase.{multiplicity}
 use Rattle.phrase_starts.specs.Terms.{term_at, starts_of, start_lists, Good, Room, Rarest}
 use Rattle.phrase_starts.specs.Common.{Ascending, Common}
 use Rattle.phrase_starts.proofs.Records.{starts-length, starts-ascending}
-use Rattle.phrase.specs.Step.{Held, unmet_from, Candidates, Left}
+use Rattle.phrase.specs.Step.{CandidatesHeld, unmet_from, Candidates, Left}
 use Rattle.phrase.proofs.Steps.{left_end, unmet-start, unmet-not-past, left-unmet, left-of-all}
 use Rattle.phrase.proofs.common.Goals.{After-write_starts}
 use Rattle.phrase.proofs.common.Goals as goal
@@ -18,7 +18,7 @@ module _ {ps ts : List ℕ} (g : Good ps ts) {r : ℕ} (h : Rarest ts r) {cs : L
   long : length cs ≡ get_or ts (r + 1) 0
   long = ap length e ∙ starts-length ps (term_at ts r)
 
-  held : Held ps ts r cs
+  held : CandidatesHeld ps ts r cs
   held =
       record {
         good = g;
@@ -64,7 +64,7 @@ returns-in_default c =
 
 pub meet-left-requires : goal.meet-left-requires
 meet-left-requires c =
-    begun c.requires.0 c.rarest-best.ensures (are (goal.at.meet-left-requires c).After-write_starts) c.in-Some.at (length c.args.b.now) c.requires.1.1 c.in-Some.ensures
+    begun c.requires.0 c.rarest-best.ensures (are (goal.at.meet-left-requires c).After-write_starts) c.in-Some.at (length c.args.other_starts.now) c.requires.1.1 c.in-Some.ensures
 
 pub returns-in-None : goal.returns-in-None
 returns-in-None c =

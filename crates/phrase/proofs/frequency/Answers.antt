@@ -1,3 +1,4 @@
+-- Two terms are merged without buffers; of more, the common part of the starts is written and counted.
 use Rattle.std.proofs.Common.{◌≡◌, sym, ap, subst, ◌∙◌, List, [], ◌∷◌, ℕ, ◌≤◌, length, drop, arith}
 use Rattle.meaning.specs.Phrase.{common_size}
 use Rattle.phrase_starts.specs.declared.Term.{Term}
@@ -26,11 +27,11 @@ overflow_cast-result c =
     let s = c.term_at in
     let k = c.type_inv.terms 1 in
     let f = ap (λ x. x.freq) s.ensures in
-    let m = pair_small c.args.positions.now s.result c.term_at-then-terms-eq6.result in
+    let m = pair_small c.args.positions.now s.result c.term_at-then-terms-eq-TWO_TERMS.result in
     record { fits = omega (arith, m, f, k.fits, c.pair.ensures) }
 
-pub returns-then-terms-eq6 : goal.returns-then-terms-eq6
-returns-then-terms-eq6 c = c.pair.ensures ∙ pair_size c.args.positions.now c.args.terms.now c.term_at.result c.term_at-then-terms-eq6.result c.if-terms-eq6.true c.term_at.ensures c.term_at-then-terms-eq6.ensures
+pub returns-then-terms-eq-TWO_TERMS : goal.returns-then-terms-eq-TWO_TERMS
+returns-then-terms-eq-TWO_TERMS c = c.pair.ensures ∙ pair_size c.args.positions.now c.args.terms.now c.term_at.result c.term_at-then-terms-eq-TWO_TERMS.result c.if-terms-eq-TWO_TERMS.true c.term_at.ensures c.term_at-then-terms-eq-TWO_TERMS.ensures
 
 pub returns : goal.returns
 returns c =

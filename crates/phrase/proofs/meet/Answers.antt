@@ -1,3 +1,4 @@
+-- One more term leaves of the candidates what they have in common with its starts.
 use Rattle.std.proofs.Common.{◌≡◌, subst, List, [], ◌∷◌, ℕ, ◌≤◌, length, take, length-take, ℤ, arith}
 use Rattle.phrase_starts.specs.declared.Term.{Term}
 use Rattle.phrase_starts.specs.Terms.{term_at, starts_of}

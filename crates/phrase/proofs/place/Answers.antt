@@ -1,3 +1,4 @@
+-- The common part ascends, so its first start is the least.
 use Rattle.std.proofs.Common.{sym, subst, ◌∙◌, Option, ℤ}
 use Rattle.phrase_starts.specs.Terms.{start_lists}
 use Rattle.phrase_starts.proofs.Records.{lists-some}

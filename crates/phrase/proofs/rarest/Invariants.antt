@@ -1,3 +1,4 @@
+-- Of the records before the one at `at`, that at `best` is the first with the least frequency.
 use Rattle.std.proofs.Common.{◌≡◌, ◌+◌, get_or}
 use Rattle.phrase.proofs.LeastFrequency.{Passed}
 use Rattle.phrase.proofs.rarest.Given as goal

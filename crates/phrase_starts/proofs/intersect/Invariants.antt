@@ -1,3 +1,4 @@
+-- The matches written, and what is left of both lists, make the common part; each turn passes a head.
 use Rattle.std.proofs.Common.{◌+◌, ◌-◌, length}
 use Rattle.phrase_starts.proofs.Merged.{Merged}
 use Rattle.phrase_starts.proofs.intersect.Given as goal

@@ -1,3 +1,4 @@
+-- Two ascending lists are merged: the lesser of the two heads is passed, equal ones are counted.
 use Rattle.std.proofs.Common.{refl, [], arith}
 use Rattle.phrase_starts.specs.Terms.{starts_of}
 use Rattle.phrase_starts.proofs.Merge.{merge-begins}

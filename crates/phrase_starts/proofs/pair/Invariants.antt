@@ -1,3 +1,4 @@
+-- The matches counted, and what is left of both lists, make the common part; each turn passes a head.
 use Rattle.std.proofs.Common.{◌+◌, ◌-◌}
 use Rattle.phrase_starts.proofs.Paired.{Paired}
 use Rattle.phrase_starts.proofs.pair.Given as goal

@@ -1,3 +1,4 @@
+-- Each turn writes one start more behind the others.
 use Rattle.std.proofs.Common.{◌≡◌, sym, ap, ◌∙◌, subst, List, ℕ, ◌+◌, ◌<◌, length, take, set, get_or, take-suc-set, take_all, add-one, ℤ, arith, w32}
 use Rattle.std.proofs.Math.IntN.{sub_ℕ}
 use mir.ValLaws.{to_z-of_z}

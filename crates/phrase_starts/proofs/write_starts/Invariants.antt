@@ -1,3 +1,4 @@
+-- The first j starts of the term stand at the front.
 use Rattle.std.proofs.Common.{◌≡◌, take}
 use Rattle.phrase_starts.specs.Terms.{starts_of}
 use Rattle.phrase_starts.proofs.write_starts.Given as goal

@@ -1,8 +1,8 @@
--- The cycle's measures, and what its loops keep.
+-- Children are one level deeper. The sum is that of the children before `at`, added in the order of their parts.
 use Prim.Native.Nat.{◌+◌, ◌-◌, ◌*◌}
 use lib.ListN.{length}
 use mathlib.Core.Path.{◌≡◌}
-use Rattle.leaf_scorer.specs.Buffers.{places_in, SameBuffers}
+use Rattle.scorer_leaf.specs.Buffers.{places_in, SameBuffers}
 use Rattle.score.proofs.Loops.{RequiredAt, OptionalAt}
 use Rattle.score.proofs.+joined_optional_required_score.Given as goal
 

@@ -1,12 +1,15 @@
--- The answers of the cycle.
+-- A node comes to the first document at or after the target that it matches: kind by kind, and for a Boolean the
+-- required, the optional and the prohibited children, each a level deeper.
 use Prim.Native.Nat.{◌+◌, ◌-◌, ◌<◌}
 use lib.ListN.{length, drop, take}
 use lib.Dec.{leb}
 use Rattle.meaning.specs.Limits.{no_more_docs, node_state_words}
-use Rattle.weight.specs.ScorerTree.{matching, all_match}
-use Rattle.node.specs.Kinds.{kind_of}
-use Rattle.node.proofs.Scorers.{phrase-word, boolean-word, is-phrase}
-use Rattle.leaf_scorer.specs.Calls.{lent_of}
+use Rattle.meaning.specs.First.{First}
+use Rattle.tree_weight.specs.ScorerTree.{matching, all_match}
+use Rattle.scorer.specs.Calls.{BooleanHeld, leads}
+use Rattle.tree_node.specs.Kinds.{node_kind}
+use Rattle.tree_node.proofs.Scorers.{phrase-word, boolean-word, is-phrase}
+use Rattle.scorer_leaf.specs.Calls.{lists_of}
 use mathlib.Core.Path.{refl, sym, ap, ◌∙◌}
 use mathlib.Core.List.{◌++◌}
 use native.Mathlib.Omega.{arith}
@@ -14,12 +17,13 @@ use native.Mathlib.Nat.{le_trans}
 use lib.Seq.{length-take-le, get_or-set_same}
 use borrow.Author.Tests.{le-leb}
 use Rattle.scorer.proofs.Firsts.{pass-done, pass-more, pass-then, pass-only, enough-top, enough-hit, enough-more, kept_top, kept-alone, kept-hit, kept_more}
-use Rattle.leaf_scorer.proofs.Loops.{same_refl, same_then, same_room, part_back, back-length, going_start}
+use Rattle.scorer_leaf.proofs.Loops.{same_refl, same_then, same_room, part_back, back-length, going_start}
 use Rattle.scorer.proofs.Leads.{front_length, parts-later, lead-fits, lead-required, lead-turn, lead-optional, lead-joined, alone-optional, alone-joined, alone-first, alone-here, boolean-lead, boolean-turn, boolean-prohibited, boolean-joined, boolean-later, boolean-none}
 use Rattle.scorer.proofs.Nodes.{node-long, node-cached, node-leaf, node-sought, node-boolean, node-joined}
 use Rattle.scorer.proofs.Children.{child-asked, phrase-asked, term-asked, range-asked}
 use Rattle.scorer.proofs.Loops.{least-child, least-end, least_skip, least-took, pass-child, pass-end, pass-skip, pass-took, pass-asked}
 use Rattle.scorer.proofs.+advance_conjunction_disjunction_excluding_lead_least_pass_step.Goals as goal
+use Rattle.scorer.proofs.+advance_conjunction_disjunction_excluding_lead_least_pass_step.Goals.{excluding-After-lead-d}
 
 pub conjunction-step-e-requires : goal.conjunction-step-e-requires
 conjunction-step-e-requires t c =
@@ -160,11 +164,11 @@ step-returns-else-n-eq0-clause-step_post t c =
     let y = x.ensures.disjunction_post ix p os (lead-optional q.1) in
     (pass-then {P = all_match ix rs} {Q = λ d. leb c.args.n.need (matching ix os d)} q.0 y.0, lead-joined q.1 x.new.kids x.result y.0.from y.1)
 
-pub advance-bounds-st-2 : goal.advance-bounds-st-2
-advance-bounds-st-2 t c = omega (arith, node-long c.requires.1.5)
+pub advance-bounds-states-2 : goal.advance-bounds-states-2
+advance-bounds-states-2 t c = omega (arith, node-long c.requires.1.5)
 
-pub advance-bounds-st-0 : goal.advance-bounds-st-0
-advance-bounds-st-0 t c = omega (arith, node-long c.requires.1.5)
+pub advance-bounds-states-0 : goal.advance-bounds-states-0
+advance-bounds-states-0 t c = omega (arith, node-long c.requires.1.5)
 
 pub advance-returns-then-target-cached-clause-advance_post : goal.advance-returns-then-target-cached-clause-advance_post
 advance-returns-then-target-cached-clause-advance_post t c = λ ix p T o z. (node-cached z c.if-target-cached.true, z.ok)
@@ -192,34 +196,34 @@ advance-excluding-d-requires t c =
     let n = node-boolean c.if-target-cached.false (boolean-word _ (sym c.in-Boolean.ensures)) b.result b.ensures P.2 P.5 in
     (omega (arith, n.0), (c.requires.0, (P.0, P.1, n.1.0, n.1.1, n.1.2, P.4, n.1.3)))
 
-pub advance-overflow_add-st : goal.advance-overflow_add-st
-advance-overflow_add-st t c =
+pub advance-overflow_add-states : goal.advance-overflow_add-states
+advance-overflow_add-states t c =
     let P = c.requires.1 in
     let b = c.boolean_at-n in
     let x = c.excluding-d in
     let d = node-joined c.if-target-cached.false (boolean-word _ (sym c.in-Boolean.ensures)) b.result b.ensures x.result x.new.kids x.ensures.boolean_post P.2 P.5 in
     omega (arith, d.0.top)
 
-pub advance-bounds-st-2-in-Boolean : goal.advance-bounds-st-2-in-Boolean
-advance-bounds-st-2-in-Boolean t c =
+pub advance-bounds-states-2-in-Boolean : goal.advance-bounds-states-2-in-Boolean
+advance-bounds-states-2-in-Boolean t c =
     let x = c.excluding-d in
-    omega (arith, node-long c.requires.1.5, back-length c.args.st.now x.new.kids node_state_words (length c.args.st.now) x.auto.kids)
+    omega (arith, node-long c.requires.1.5, back-length c.args.states.now x.new.kids node_state_words (length c.args.states.now) x.auto.kids)
 
 pub advance-seek-d-requires : goal.advance-seek-d-requires
 advance-seek-d-requires t c =
     let P = c.requires.1 in
-    let n = node-leaf c.if-target-cached.false (λ e. c.in_default.not-Boolean (c.from.ensures ∙ ap kind_of e)) P.2 P.5 in
+    let n = node-leaf c.if-target-cached.false (λ e. c.in_default.not-Boolean (c.from.ensures ∙ ap node_kind e)) P.2 P.5 in
     (c.requires.0, (P.0, P.1, n.0, n.1, n.2, P.4, n.3))
 
-pub advance-overflow_add-st-in_default : goal.advance-overflow_add-st-in_default
-advance-overflow_add-st-in_default t c =
+pub advance-overflow_add-states-in_default : goal.advance-overflow_add-states-in_default
+advance-overflow_add-states-in_default t c =
     let P = c.requires.1 in
     let y = c.seek-d in
-    let d = node-sought c.if-target-cached.false c.requires.0 (λ e. c.in_default.not-Boolean (c.from.ensures ∙ ap kind_of e)) y.result y.new.st y.ensures.leaf_post P.2 P.5 in
+    let d = node-sought c.if-target-cached.false c.requires.0 (λ e. c.in_default.not-Boolean (c.from.ensures ∙ ap node_kind e)) y.result y.new.states y.ensures.leaf_post P.2 P.5 in
     omega (arith, d.0.top)
 
-pub advance-bounds-st-2-in_default : goal.advance-bounds-st-2-in_default
-advance-bounds-st-2-in_default t c = let y = c.seek-d in omega (arith, node-long c.requires.1.5, y.auto.st)
+pub advance-bounds-states-2-in_default : goal.advance-bounds-states-2-in_default
+advance-bounds-states-2-in_default t c = let y = c.seek-d in omega (arith, node-long c.requires.1.5, y.auto.states)
 
 pub advance-returns-in-Boolean-clause-advance_post : goal.advance-returns-in-Boolean-clause-advance_post
 advance-returns-in-Boolean-clause-advance_post t c =
@@ -227,19 +231,19 @@ advance-returns-in-Boolean-clause-advance_post t c =
     let x = c.excluding-d in
     λ ix p T o z. node-joined c.if-target-cached.false (boolean-word _ (sym c.in-Boolean.ensures)) b.result b.ensures x.result x.new.kids x.ensures.boolean_post T z
 
-pub advance-returns-in-Boolean-clause-st_after : goal.advance-returns-in-Boolean-clause-st_after
-advance-returns-in-Boolean-clause-st_after t c =
+pub advance-returns-in-Boolean-clause-cached_after : goal.advance-returns-in-Boolean-clause-cached_after
+advance-returns-in-Boolean-clause-cached_after t c =
     let x = c.excluding-d in
-    get_or-set_same (take node_state_words c.args.st.now ++ (x.new.kids ++ drop (length c.args.st.now - node_state_words) (drop node_state_words c.args.st.now))) 2 (x.result + 1) 0 (omega (arith, node-long c.requires.1.5, back-length c.args.st.now x.new.kids node_state_words (length c.args.st.now) x.auto.kids))
+    get_or-set_same (take node_state_words c.args.states.now ++ (x.new.kids ++ drop (length c.args.states.now - node_state_words) (drop node_state_words c.args.states.now))) 2 (x.result + 1) 0 (omega (arith, node-long c.requires.1.5, back-length c.args.states.now x.new.kids node_state_words (length c.args.states.now) x.auto.kids))
 
 pub advance-returns-in_default-clause-advance_post : goal.advance-returns-in_default-clause-advance_post
 advance-returns-in_default-clause-advance_post t c =
     let y = c.seek-d in
-    λ ix p T o z. node-sought c.if-target-cached.false c.requires.0 (λ e. c.in_default.not-Boolean (c.from.ensures ∙ ap kind_of e)) y.result y.new.st y.ensures.leaf_post T z
+    λ ix p T o z. node-sought c.if-target-cached.false c.requires.0 (λ e. c.in_default.not-Boolean (c.from.ensures ∙ ap node_kind e)) y.result y.new.states y.ensures.leaf_post T z
 
-pub advance-returns-in_default-clause-st_after : goal.advance-returns-in_default-clause-st_after
-advance-returns-in_default-clause-st_after t c =
-    let y = c.seek-d in get_or-set_same y.new.st 2 (y.result + 1) 0 (omega (arith, node-long c.requires.1.5, y.auto.st))
+pub advance-returns-in_default-clause-cached_after : goal.advance-returns-in_default-clause-cached_after
+advance-returns-in_default-clause-cached_after t c =
+    let y = c.seek-d in get_or-set_same y.new.states 2 (y.result + 1) 0 (omega (arith, node-long c.requires.1.5, y.auto.states))
 
 pub excluding-lead-d-requires : goal.excluding-lead-d-requires
 excluding-lead-d-requires t c =
@@ -266,32 +270,25 @@ excluding-returns-then-n-kids-clause-boolean_post t c =
     let q = boolean-turn i.held c.args.n.need g.new.kids g.result g.auto.kids g.ensures.lead_post in
     (kept-alone ix rs os ps c.args.n.need i.lo i.before q.0 (boolean-none q.1 c.if-n-kids.true), q.1)
 
+-- once the lead stands at a document
+excluded-lead : (t : _) (c : goal.excluding-After-lead-d t) → First (leads c.requires.1.0 c.requires.1.2 c.requires.1.3 c.args.n.need) c.loop-n.t c.lead-d.result × BooleanHeld (lists_of c.args.reader.now) c.requires.1.0 c.requires.1.1 c.requires.1.2 c.requires.1.3 c.requires.1.4 c.args.depth c.args.n.required_end c.args.n.optional_end (c.lead-d.new.kids ++ drop c.args.n.optional_end c.loop-n.kids) c.lead-d.result
+excluded-lead t c =
+    let P = c.requires.1 in
+    let i = c.loop-n.invariant.2 P.0 P.1 P.2 P.3 P.4 P.6 in
+    let g = c.lead-d in
+    boolean-turn i.held c.args.n.need g.new.kids g.result g.auto.kids g.ensures.lead_post
+
 pub excluding-least-x-requires : goal.excluding-least-x-requires
 excluding-least-x-requires t c =
     let P = c.requires.1 in
-    let a = c.loop-n in
-    let i = a.invariant.2 P.0 P.1 P.2 P.3 P.4 P.6 in
-    let g = c.lead-d in
-    let q = boolean-turn i.held c.args.n.need g.new.kids g.result g.auto.kids g.ensures.lead_post in
-    (omega arith, (q.0.top, (P.0, P.1, P.4, same_room P.5 (same_then a.invariant.0.buffers-same g.ensures.same_buffers), boolean-prohibited q.1)))
+    let q = excluded-lead t (goal.at.excluding-least-x-requires t c).After-lead-d in
+    (omega arith, (q.0.top, (P.0, P.1, P.4, same_room P.5 (same_then c.loop-n.invariant.0.buffers-same c.lead-d.ensures.same_buffers), boolean-prohibited q.1)))
 
 pub excluding-overflow_add-t : goal.excluding-overflow_add-t
-excluding-overflow_add-t t c =
-    let P = c.requires.1 in
-    let a = c.loop-n in
-    let i = a.invariant.2 P.0 P.1 P.2 P.3 P.4 P.6 in
-    let g = c.lead-d in
-    let q = boolean-turn i.held c.args.n.need g.new.kids g.result g.auto.kids g.ensures.lead_post in
-    omega (arith, q.0.top)
+excluding-overflow_add-t t c = let q = excluded-lead t (goal.at.excluding-overflow_add-t t c).After-lead-d in omega (arith, q.0.top)
 
 pub excluding-loop-n-smaller : goal.excluding-loop-n-smaller
-excluding-loop-n-smaller t c =
-    let P = c.requires.1 in
-    let a = c.loop-n in
-    let i = a.invariant.2 P.0 P.1 P.2 P.3 P.4 P.6 in
-    let g = c.lead-d in
-    let q = boolean-turn i.held c.args.n.need g.new.kids g.result g.auto.kids g.ensures.lead_post in
-    omega (arith, q.0.from)
+excluding-loop-n-smaller t c = let q = excluded-lead t (goal.at.excluding-loop-n-smaller t c).After-lead-d in omega (arith, q.0.from)
 
 pub excluding-loop-n-preserved : goal.excluding-loop-n-preserved
 excluding-loop-n-preserved t c =
@@ -335,7 +332,7 @@ least-loop-at-preserved-in-Term t c =
     let a = c.loop-at in
     let l = c.loop-at-test.true in
     let d = c.advance_term-d in
-    (part_back a.kids a.invariant.0 d.new.st a.at _ d.auto.st (same_refl _), λ ix p ss h. least-took (a.invariant.1 ix p ss h) l _ c.child_at-child.ensures.end_is d.result c.with-least.result.doc c.with-least.result.count d.new.st d.auto.st (d.ensures.term_post (lent_of c.args.reader.now) c.args.depth refl) c.with-least.ensures)
+    (part_back a.kids a.invariant.0 d.new.states a.at _ d.auto.states (same_refl _), λ ix p ss h. least-took (a.invariant.1 ix p ss h) l _ c.child_at-child.ensures.end_is d.result c.with-least.result.doc c.with-least.result.count d.new.states d.auto.states (d.ensures.term_post (lists_of c.args.reader.now) c.args.depth refl) c.with-least.ensures)
 
 pub least-child_at-child-requires : goal.least-child_at-child-requires
 least-child_at-child-requires t c = (least-child c.requires.1 c.loop-at.invariant c.loop-at-test.true).there
@@ -361,7 +358,7 @@ least-loop-at-preserved t c =
     let a = c.loop-at in
     let d = c.advance-d in
     let y = c.with-least-in_default-2 in
-    (part_back a.kids a.invariant.0 d.new.st a.at _ d.auto.st d.ensures.same_buffers, λ ix p ss h. least-took (a.invariant.1 ix p ss h) c.loop-at-test.true _ c.child_at-child.ensures.end_is d.result y.result.doc y.result.count d.new.st d.auto.st d.ensures.advance_post y.ensures)
+    (part_back a.kids a.invariant.0 d.new.states a.at _ d.auto.states d.ensures.same_buffers, λ ix p ss h. least-took (a.invariant.1 ix p ss h) c.loop-at-test.true _ c.child_at-child.ensures.end_is d.result y.result.doc y.result.count d.new.states d.auto.states d.ensures.advance_post y.ensures)
 
 pub least-returns-clause-least_post : goal.least-returns-clause-least_post
 least-returns-clause-least_post t c = λ ix p ss h. least-end (c.loop-at.invariant.1 ix p ss h) c.loop-at-test.false
@@ -377,7 +374,7 @@ pass-loop-at-preserved-in-Term t c =
     let a = c.loop-at in
     let l = c.loop-at-test.true in
     let d = c.advance_term-d in
-    (part_back a.kids a.invariant.0 d.new.st a.at _ d.auto.st (same_refl _), λ ix p ss h. pass-took (a.invariant.1 ix p ss h) l _ c.child_at-child.ensures.end_is d.result d.new.st d.auto.st (d.ensures.term_post (lent_of c.args.reader.now) c.args.depth refl))
+    (part_back a.kids a.invariant.0 d.new.states a.at _ d.auto.states (same_refl _), λ ix p ss h. pass-took (a.invariant.1 ix p ss h) l _ c.child_at-child.ensures.end_is d.result d.new.states d.auto.states (d.ensures.term_post (lists_of c.args.reader.now) c.args.depth refl))
 
 pub pass-slice_bounds-advance_range-end : goal.pass-slice_bounds-advance_range-end
 pass-slice_bounds-advance_range-end t c = omega (arith, (pass-child c.requires.1 c.loop-at.invariant c.loop-at-test.true).there, c.loop-at.invariant.0, c.well_formed, c.child_at-child.ensures.end_is)
@@ -390,7 +387,7 @@ pass-loop-at-preserved-in-Range t c =
     let a = c.loop-at in
     let l = c.loop-at-test.true in
     let d = c.advance_range-d in
-    (part_back a.kids a.invariant.0 d.new.st a.at _ d.auto.st (same_refl _), λ ix p ss h. pass-took (a.invariant.1 ix p ss h) l _ c.child_at-child.ensures.end_is d.result d.new.st d.auto.st (d.ensures (lent_of c.args.reader.now) c.args.depth refl))
+    (part_back a.kids a.invariant.0 d.new.states a.at _ d.auto.states (same_refl _), λ ix p ss h. pass-took (a.invariant.1 ix p ss h) l _ c.child_at-child.ensures.end_is d.result d.new.states d.auto.states (d.ensures (lists_of c.args.reader.now) c.args.depth refl))
 
 pub pass-child_at-child-requires : goal.pass-child_at-child-requires
 pass-child_at-child-requires t c = (pass-child c.requires.1 c.loop-at.invariant c.loop-at-test.true).there
@@ -413,19 +410,19 @@ pass-ask_phrase-d-requires t c =
     phrase-asked (pass-child c.requires.1 c.loop-at.invariant c.loop-at-test.true) is (phrase-word _ (sym is.kind-is ∙ is-phrase _ (sym c.eq.ensures ∙ c.if-eq.true))) c.if-d-child.false
 
 pub pass-loop-at-smaller-in-Range : goal.pass-loop-at-smaller-in-Range
-pass-loop-at-smaller-in-Range t c = omega (arith, (pass-child c.requires.1 c.loop-at.invariant c.loop-at-test.true).there, c.child_at-child.ensures.end_is, back-length c.loop-at.kids c.advance_range-d.new.st c.loop-at.at c.child_at-child.result.end c.advance_range-d.auto.st)
+pass-loop-at-smaller-in-Range t c = omega (arith, (pass-child c.requires.1 c.loop-at.invariant c.loop-at-test.true).there, c.child_at-child.ensures.end_is, back-length c.loop-at.kids c.advance_range-d.new.states c.loop-at.at c.child_at-child.result.end c.advance_range-d.auto.states)
 
 pub pass-loop-at-smaller-then-eq : goal.pass-loop-at-smaller-then-eq
 pass-loop-at-smaller-then-eq t c =
     let a = c.loop-at in
     let e = c.child_at-child.ensures.end_is in
-    omega (arith, (pass-child c.requires.1 a.invariant c.loop-at-test.true).there, e, back-length a.kids c.ask_phrase-d.new.st a.at c.child_at-child.result.end c.ask_phrase-d.auto.st)
+    omega (arith, (pass-child c.requires.1 a.invariant c.loop-at-test.true).there, e, back-length a.kids c.ask_phrase-d.new.states a.at c.child_at-child.result.end c.ask_phrase-d.auto.states)
 
 pub pass-loop-at-preserved-then-eq : goal.pass-loop-at-preserved-then-eq
 pass-loop-at-preserved-then-eq t c =
     let a = c.loop-at in
     let d = c.ask_phrase-d in
-    (part_back a.kids a.invariant.0 d.new.st a.at _ d.auto.st d.ensures.same_buffers, λ ix p ss h. pass-asked (a.invariant.1 ix p ss h) c.loop-at-test.true _ c.child_at-child.ensures.end_is d.result d.new.st d.auto.st (d.ensures.ask_post (lent_of c.args.reader.now) c.args.depth refl refl))
+    (part_back a.kids a.invariant.0 d.new.states a.at _ d.auto.states d.ensures.same_buffers, λ ix p ss h. pass-asked (a.invariant.1 ix p ss h) c.loop-at-test.true _ c.child_at-child.ensures.end_is d.result d.new.states d.auto.states (d.ensures.ask_post (lists_of c.args.reader.now) c.args.depth refl refl))
 
 pub pass-slice_bounds-advance-end : goal.pass-slice_bounds-advance-end
 pass-slice_bounds-advance-end t c = omega (arith, (pass-child c.requires.1 c.loop-at.invariant c.loop-at-test.true).there, c.loop-at.invariant.0, c.well_formed, c.child_at-child.ensures.end_is)
@@ -437,7 +434,7 @@ pub pass-loop-at-preserved : goal.pass-loop-at-preserved
 pass-loop-at-preserved t c =
     let a = c.loop-at in
     let d = c.advance-d in
-    (part_back a.kids a.invariant.0 d.new.st a.at _ d.auto.st d.ensures.same_buffers, λ ix p ss h. pass-took (a.invariant.1 ix p ss h) c.loop-at-test.true _ c.child_at-child.ensures.end_is d.result d.new.st d.auto.st d.ensures.advance_post)
+    (part_back a.kids a.invariant.0 d.new.states a.at _ d.auto.states d.ensures.same_buffers, λ ix p ss h. pass-took (a.invariant.1 ix p ss h) c.loop-at-test.true _ c.child_at-child.ensures.end_is d.result d.new.states d.auto.states d.ensures.advance_post)
 
 pub pass-returns-clause-pass_post : goal.pass-returns-clause-pass_post
 pass-returns-clause-pass_post t c = λ ix p ss h. pass-end (c.loop-at.invariant.1 ix p ss h) c.loop-at-test.false

@@ -1,4 +1,4 @@
--- `scorer::ask_phrase` meets its contract: nothing is asked where the pass has moved; where the phrase stands its document is cached. Assumes nothing.
+-- Nothing is asked where the pass has moved; a document where the phrase stands is cached.
 use Rattle.std.proofs.Common.{arith, sym}
 use native.Mathlib.Nat.{le_refl}
 use Rattle.scorer.proofs.Nodes.{node-long}
@@ -15,12 +15,12 @@ phrase_at-d-requires c = let P = c.requires.3 in phrase-asks _ _ _ _ c.requires.
 pub returns-then-d-target-clause-ask_post : goal.returns-then-d-target-clause-ask_post
 returns-then-d-target-clause-ask_post c =
     let y = c.phrase_at-d in
-    λ E k pe qe ix p T o h. asked-moved _ _ _ _ c.requires.1 c.requires.2 E pe qe y.result y.new.st y.ensures.phrase_at_post h c.if-from-target.false c.if-d-target.true
+    λ E k pe qe ix p T o h. asked-moved _ _ _ _ c.requires.1 c.requires.2 E pe qe y.result y.new.states y.ensures.phrase_at_post h c.if-from-target.false c.if-d-target.true
 
-pub bounds-st-2 : goal.bounds-st-2
-bounds-st-2 c = omega (arith, node-long c.requires.3.9, c.phrase_at-d.auto.st)
+pub bounds-states-2 : goal.bounds-states-2
+bounds-states-2 c = omega (arith, node-long c.requires.3.9, c.phrase_at-d.auto.states)
 
 pub returns-clause-ask_post : goal.returns-clause-ask_post
 returns-clause-ask_post c =
     let y = c.phrase_at-d in
-    λ E k pe qe ix p T o h. asked-there _ _ _ _ c.requires.1 c.requires.2 E pe qe y.result y.new.st y.ensures.phrase_at_post h c.if-from-target.false c.if-d-target.false
+    λ E k pe qe ix p T o h. asked-there _ _ _ _ c.requires.1 c.requires.2 E pe qe y.result y.new.states y.ensures.phrase_at_post h c.if-from-target.false c.if-d-target.false

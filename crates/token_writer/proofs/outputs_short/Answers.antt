@@ -1,4 +1,4 @@
--- `token_writer::outputs_short` meets its contract. Assumes nothing.
+-- What the four outputs need comes from the counts, and none of the products overflows.
 use Rattle.std.proofs.Common.{arith, ap, ◌∙◌, ◌*◌, ℕ}
 use Rattle.meaning.specs.Below.{count_below}
 use Rattle.meaning.specs.Lent.{has_norms}

@@ -1,4 +1,4 @@
--- `token_writer::write_index` meets its contract. Assumes nothing.
+-- Once accepted, every output has room for what is written, and the norms are made from the postings just written.
 use Rattle.std.proofs.Common.{sym, arith}
 use Rattle.std.proofs.lemmas.List.{length-take-le}
 use Rattle.token_writer.proofs.Entry.{accepted-call, entry-handed-on, entry_done, postings-room, postings-inside, runs-inside, parts-ok}

@@ -1,4 +1,4 @@
--- `tokens::begins_posting` meets its contract. Assumes nothing.
+-- The first token begins a posting; any other does where its leaf or document is not that of the one before.
 use Rattle.std.proofs.Common.{arith}
 use Rattle.tokens.proofs.OneToken.{begins-first, begins-later}
 use Rattle.tokens.proofs.begins_posting.Goals as goal

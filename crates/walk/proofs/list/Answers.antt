@@ -1,8 +1,8 @@
--- `walk::list` meets its contract: what is written are the first live matches. Assumes nothing.
+-- Each turn writes the live match at hand with its score and goes to the next one.
 use mathlib.Core.Path.{◌≡◌}
 use lib.ListN.{length}
 use native.Mathlib.Omega.{arith}
-use Rattle.leaf_scorer.proofs.Loops.{same_then}
+use Rattle.scorer_leaf.proofs.Loops.{same_then}
 use Rattle.score.proofs.Loops.{places_same}
 use Rattle.walk.proofs.Walking.{page-start, page-score-asks, page-number, page-next-asks, page-more, page-none, page-full}
 use Rattle.walk.proofs.list.Goals as goal

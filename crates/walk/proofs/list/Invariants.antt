@@ -1,4 +1,5 @@
-use Rattle.leaf_scorer.specs.Buffers.{places_in, SameBuffers}
+-- The first `given` live matches with their scores stand at the front, and `next` is the one after them.
+use Rattle.scorer_leaf.specs.Buffers.{places_in, SameBuffers}
 use Rattle.walk.proofs.Walking.{GivenAt}
 use Rattle.walk.proofs.list.Given as goal
 
@@ -6,5 +7,5 @@ abbrev pub invariant-loop-given : goal.invariant-loop-given
 invariant-loop-given l =
     record {
       same_buffers : SameBuffers l.fn.buffers l.buffers;
-      page : GivenAt l.reader (places_in l.fn.buffers) l.fn.st l.from l.depth l.fn.docs l.fn.bits l.st l.docs l.bits l.given l.next;
+      page : GivenAt l.reader (places_in l.fn.buffers) l.fn.states l.from l.depth l.fn.docs l.fn.bits l.states l.docs l.bits l.given l.next;
     }

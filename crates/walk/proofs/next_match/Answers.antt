@@ -1,7 +1,7 @@
--- `walk::next_match` meets its contract: what the loop has passed is no live match. Assumes nothing.
+-- The tree's next match is the answer if it is live, else the search goes on behind it.
 use mathlib.Core.Path.{sym, ◌∙◌}
 use native.Mathlib.Omega.{arith}
-use Rattle.leaf_scorer.proofs.Loops.{same_then}
+use Rattle.scorer_leaf.proofs.Loops.{same_then}
 use Rattle.walk.proofs.Walking.{walk_from, walk-stop, walk-found, walk_more}
 use Rattle.walk.proofs.next_match.Goals as goal
 

@@ -1,7 +1,8 @@
+-- No document from `from` up to the target is a live match; each turn moves the target on.
 use Prim.Native.Nat.{◌-◌, ◌≤◌}
 use Rattle.meaning.specs.Limits.{no_more_docs}
-use Rattle.scorer.specs.Calls.{lent_of}
-use Rattle.leaf_scorer.specs.Buffers.{SameBuffers}
+use Rattle.scorer.specs.Calls.{lists_of}
+use Rattle.scorer_leaf.specs.Buffers.{SameBuffers}
 use Rattle.walk.proofs.Walking.{WalkAt}
 use Rattle.walk.proofs.next_match.Given as goal
 
@@ -11,7 +12,7 @@ invariant-loop-from l =
       same_buffers : SameBuffers l.initial.buffers l.buffers;
       from : l.from ≤ l.target;
       top : l.target ≤ no_more_docs;
-      passed : WalkAt (lent_of l.reader) l.reader.live.now l.initial.st l.from l.depth l.st l.target;
+      passed : WalkAt (lists_of l.reader) l.reader.live.now l.initial.states l.from l.depth l.states l.target;
     }
 
 abbrev pub decreases-loop-from : goal.decreases-loop-from

@@ -1,3 +1,4 @@
+-- The first document beyond the window ends the loop, and all behind it are beyond it too.
 use Rattle.std.proofs.Common.{arith}
 use Rattle.window.proofs.Gathering.{gathering-start, gathering-more, gathering-stops}
 use Rattle.window.proofs.gathered.Goals as goal

@@ -1,3 +1,4 @@
+-- The documents of the postings before the i-th are set in `w`, and all are below the window's end.
 use Rattle.window.proofs.Gathering.{Gathering}
 use Rattle.window.proofs.gathered.Given as goal
 

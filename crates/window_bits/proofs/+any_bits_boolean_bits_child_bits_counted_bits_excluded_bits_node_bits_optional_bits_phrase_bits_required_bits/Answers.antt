@@ -1,10 +1,11 @@
--- The answers of the cycle. Assumes nothing.
+-- A node's documents in the window: a Boolean asks its required children but for phrases, the optional, the prohibited,
+-- then the phrases, each a level deeper.
 use Rattle.std.proofs.Common.{refl, sym, ap, ◌∙◌, List, ◌++◌, ℕ, ◌-◌, length, get_or, take, drop, arith, rules}
-use Rattle.leaf_scorer.specs.Calls.{lent_of}
-use Rattle.leaf_scorer.specs.Buffers.{room, other_room}
-use Rattle.node.specs.declared.NodeKind.TheVariants.{Boolean}
-use Rattle.node.specs.Words.{ChildThere}
-use Rattle.node.proofs.Windows.{word-read}
+use Rattle.scorer_leaf.specs.Calls.{lists_of}
+use Rattle.scorer_leaf.specs.Buffers.{room, other_room}
+use Rattle.tree_node.specs.declared.NodeKind.TheVariants.{Boolean}
+use Rattle.tree_node.specs.Words.{ChildThere}
+use Rattle.tree_node.proofs.Windows.{word-read}
 use Rattle.window_bits.proofs.ByKind.{asked-kind, unasked-kind}
 use Rattle.window_bits.proofs.Children.{term-answers}
 use Rattle.window_bits.proofs.Passes.{pass-through, pass-start, pass-stop, pass-end, pass-there, pass-node, pass-took, pass-skip}
@@ -12,7 +13,7 @@ use Rattle.window_bits.proofs.Optionals.{any-start, any-end, any-there, any-node
 use Rattle.window_bits.proofs.Prohibited.{excluded-start, excluded-stop, excluded-end, excluded-there, excluded-node, excluded-took}
 use Rattle.window_bits.proofs.Booleans.{Entry, FirstPass, OptionalAsked, ExcludedAsked, SecondPass, three-length, three-first, words₀, first-pre, words₁, optional-pre, words₂, excluded-pre, words₃, second-pre, boolean-answers}
 use Rattle.window_bits.proofs.Nodes.{node-long, node-deep, node-put, node-pre, node-after}
-use Rattle.planes.proofs.Planes.{count-zeros}
+use Rattle.window_planes.proofs.Planes.{count-zeros}
 use Rattle.window_bits.proofs.+any_bits_boolean_bits_child_bits_counted_bits_excluded_bits_node_bits_optional_bits_phrase_bits_required_bits.Goals.{any_bits-In-loop-at, counted_bits-In-loop-at, excluded_bits-In-loop-at, required_bits-In-loop-at, boolean_bits-Start, boolean_bits-After-required_bits-r, boolean_bits-After-optional_bits-o, boolean_bits-After-excluded_bits-w, boolean_bits-After-phrase_bits-p}
 use Rattle.window_bits.proofs.+any_bits_boolean_bits_child_bits_counted_bits_excluded_bits_node_bits_optional_bits_phrase_bits_required_bits.Goals as goal
 
@@ -56,7 +57,7 @@ any_bits-loop-at-preserved t c = (
   search rules,
   λ n ix places ss u v p.
       let q = c.loop-at.invariant.1 n ix places ss u v p in
-      any-took c.child_at-k.ensures.end_is v.lends c.child_bits.result c.child_bits.new.st c.child_bits.auto.st refl c.min-next.ensures c.either-w.ensures (c.child_bits.ensures.bits_post n u) q c.loop-at-test.true,
+      any-took c.child_at-k.ensures.end_is v.lends c.child_bits.result c.child_bits.new.states c.child_bits.auto.states refl c.min-next.ensures c.either-w.ensures (c.child_bits.ensures.bits_post n u) q c.loop-at-test.true,
 )
 
 pub any_bits-returns-clause-any_post : goal.any_bits-returns-clause-any_post
@@ -74,19 +75,19 @@ abbrev kids₃ : List ℕ → ℕ → ℕ → List ℕ → List ℕ → List ℕ
 kids₃ kids e o x v z = let l = kids₂ kids e o x v in take o l ++ (z ++ drop (length l - o) (drop o l))
 
 -- what was asked of a Boolean's children, and what each question left
-abbrev entry : (t : _) (c : goal.boolean_bits-Start t) → Entry (lent_of c.args.window.now.reader) c.args.kids.now c.args.n.required_end c.args.n.optional_end c.args.n.need c.args.window.now.base c.args.want c.args.depth
+abbrev entry : (t : _) (c : goal.boolean_bits-Start t) → Entry (lists_of c.args.window.now.reader) c.args.kids.now c.args.n.required_end c.args.n.optional_end c.args.n.need c.args.window.now.base c.args.want c.args.depth
 entry t c = let r = c.requires in record { n = r.0; ix = r.1; places = r.2; rs = r.3; os = r.4; ps = r.5; small = r.6.small; wanted = r.6.wanted; known = r.7; held = r.8 }
 
-first : (t : _) (c : goal.boolean_bits-After-required_bits-r t) → FirstPass (lent_of c.args.window.now.reader) c.args.buffers.now c.required_bits-r.new.buffers (take c.args.n.required_end c.args.kids.now) c.args.window.now.base c.args.want c.args.depth c.required_bits-r.result.found.bits c.required_bits-r.result.found.next c.required_bits-r.result.skipped c.required_bits-r.new.kids
+first : (t : _) (c : goal.boolean_bits-After-required_bits-r t) → FirstPass (lists_of c.args.window.now.reader) c.args.buffers.now c.required_bits-r.new.buffers (take c.args.n.required_end c.args.kids.now) c.args.window.now.base c.args.want c.args.depth c.required_bits-r.result.found.bits c.required_bits-r.result.found.next c.required_bits-r.result.skipped c.required_bits-r.new.kids
 first t c = let r = c.required_bits-r in record { same_length = r.auto.kids; post = r.ensures.pass_post; same_buffers = r.ensures.same_buffers }
 
-optional : (t : _) (c : goal.boolean_bits-After-optional_bits-o t) → OptionalAsked (lent_of c.args.window.now.reader) c.required_bits-r.new.buffers c.optional_bits-o.new.buffers (take (c.args.n.optional_end - c.args.n.required_end) (drop c.args.n.required_end (kids₁ c.args.kids.now c.args.n.required_end c.required_bits-r.new.kids))) c.args.n.need c.args.window.now.base c.required_bits-r.result.found.bits c.args.depth c.optional_bits-o.result.bits c.optional_bits-o.result.next c.optional_bits-o.new.kids
+optional : (t : _) (c : goal.boolean_bits-After-optional_bits-o t) → OptionalAsked (lists_of c.args.window.now.reader) c.required_bits-r.new.buffers c.optional_bits-o.new.buffers (take (c.args.n.optional_end - c.args.n.required_end) (drop c.args.n.required_end (kids₁ c.args.kids.now c.args.n.required_end c.required_bits-r.new.kids))) c.args.n.need c.args.window.now.base c.required_bits-r.result.found.bits c.args.depth c.optional_bits-o.result.bits c.optional_bits-o.result.next c.optional_bits-o.new.kids
 optional t c = let o = c.optional_bits-o in record { same_length = o.auto.kids; post = o.ensures.optional_post; same_buffers = o.ensures.same_buffers }
 
-excluded : (t : _) (c : goal.boolean_bits-After-excluded_bits-w t) → ExcludedAsked (lent_of c.args.window.now.reader) c.optional_bits-o.new.buffers c.excluded_bits-w.new.buffers (let l = kids₂ c.args.kids.now c.args.n.required_end c.args.n.optional_end c.required_bits-r.new.kids c.optional_bits-o.new.kids in take (length l - c.args.n.optional_end) (drop c.args.n.optional_end l)) c.args.window.now.base c.optional_bits-o.result.bits c.args.depth c.excluded_bits-w.result c.excluded_bits-w.new.kids
+excluded : (t : _) (c : goal.boolean_bits-After-excluded_bits-w t) → ExcludedAsked (lists_of c.args.window.now.reader) c.optional_bits-o.new.buffers c.excluded_bits-w.new.buffers (let l = kids₂ c.args.kids.now c.args.n.required_end c.args.n.optional_end c.required_bits-r.new.kids c.optional_bits-o.new.kids in take (length l - c.args.n.optional_end) (drop c.args.n.optional_end l)) c.args.window.now.base c.optional_bits-o.result.bits c.args.depth c.excluded_bits-w.result c.excluded_bits-w.new.kids
 excluded t c = let w = c.excluded_bits-w in record { post = w.ensures.excluded_post; same_buffers = w.ensures.same_buffers }
 
-second : (t : _) (c : goal.boolean_bits-After-phrase_bits-p t) → SecondPass (lent_of c.args.window.now.reader) c.excluded_bits-w.new.buffers (take c.args.n.required_end (kids₃ c.args.kids.now c.args.n.required_end c.args.n.optional_end c.required_bits-r.new.kids c.optional_bits-o.new.kids c.excluded_bits-w.new.kids)) c.required_bits-r.result.skipped c.args.window.now.base c.excluded_bits-w.result c.args.depth c.phrase_bits-p.result.bits c.phrase_bits-p.result.next c.phrase_bits-p.new.kids
+second : (t : _) (c : goal.boolean_bits-After-phrase_bits-p t) → SecondPass (lists_of c.args.window.now.reader) c.excluded_bits-w.new.buffers (take c.args.n.required_end (kids₃ c.args.kids.now c.args.n.required_end c.args.n.optional_end c.required_bits-r.new.kids c.optional_bits-o.new.kids c.excluded_bits-w.new.kids)) c.required_bits-r.result.skipped c.args.window.now.base c.excluded_bits-w.result c.args.depth c.phrase_bits-p.result.bits c.phrase_bits-p.result.next c.phrase_bits-p.new.kids
 second t c = let p = c.phrase_bits-p in record { same_length = p.auto.kids; post = p.ensures.phrases_post }
 
 pub boolean_bits-slice_bounds-required_bits-end : goal.boolean_bits-slice_bounds-required_bits-end
@@ -131,17 +132,17 @@ boolean_bits-phrase_bits-p-requires t c = (omega arith, second-pre (entry t (goa
 pub boolean_bits-returns-clause-boolean_post : goal.boolean_bits-returns-clause-boolean_post
 boolean_bits-returns-clause-boolean_post t c =
     λ n ix places rs os ps u v p.
-    let s : Entry (lent_of c.args.window.now.reader) c.args.kids.now c.args.n.required_end c.args.n.optional_end c.args.n.need c.args.window.now.base c.args.want c.args.depth = record { n = n; ix = ix; places = places; rs = rs; os = os; ps = ps; small = c.requires.6.small; wanted = u; known = v; held = p } in
+    let s : Entry (lists_of c.args.window.now.reader) c.args.kids.now c.args.n.required_end c.args.n.optional_end c.args.n.need c.args.window.now.base c.args.want c.args.depth = record { n = n; ix = ix; places = places; rs = rs; os = os; ps = ps; small = c.requires.6.small; wanted = u; known = v; held = p } in
     boolean-answers s (first t (goal.at.boolean_bits-returns-clause-boolean_post t c).After-required_bits-r) (optional t (goal.at.boolean_bits-returns-clause-boolean_post t c).After-optional_bits-o) refl (excluded t (goal.at.boolean_bits-returns-clause-boolean_post t c).After-excluded_bits-w) refl (second t (goal.at.boolean_bits-returns-clause-boolean_post t c).After-phrase_bits-p) c.max.ensures c.max-2.ensures
 
-pub child_bits-bounds-st-0 : goal.child_bits-bounds-st-0
-child_bits-bounds-st-0 t c =
+pub child_bits-bounds-states-0 : goal.child_bits-bounds-states-0
+child_bits-bounds-states-0 t c =
     let r = c.requires in
     omega (arith, node-long r.1.3 r.1.7)
 
 pub child_bits-returns-in-Term-clause-bits_post : goal.child_bits-returns-in-Term-clause-bits_post
 child_bits-returns-in-Term-clause-bits_post t c =
-    λ n u. term-answers c.args.want c.term_bits.new.st c.both.ensures c.term_bits.ensures
+    λ n u. term-answers c.args.want c.term_bits.new.states c.both.ensures c.term_bits.ensures
 
 pub counted_bits-loop-at-init : goal.counted_bits-loop-at-init
 counted_bits-loop-at-init t c =
@@ -170,7 +171,7 @@ counted_bits-loop-at-preserved t c = (
   search rules,
   λ n ix places ss u v p.
       let q = c.loop-at.invariant.1 n ix places ss u v p in
-      count-took v.few c.child_at-k.ensures.end_is v.lends c.child_bits-child.result c.child_bits-child.new.st c.counted-carry.result c.child_bits-child.auto.st refl c.min-next.ensures c.counted-carry.auto.planes c.counted-carry.ensures (c.child_bits-child.ensures.bits_post n u) q c.loop-at-test.true,
+      count-took v.few c.child_at-k.ensures.end_is v.lends c.child_bits-child.result c.child_bits-child.new.states c.counted-carry.result c.child_bits-child.auto.states refl c.min-next.ensures c.counted-carry.auto.planes c.counted-carry.ensures (c.child_bits-child.ensures.bits_post n u) q c.loop-at-test.true,
 )
 
 pub counted_bits-returns-clause-count_post : goal.counted_bits-returns-clause-count_post
@@ -205,15 +206,15 @@ excluded_bits-loop-at-preserved t c = (
   search rules,
   λ n ix places ss u v p.
       let q = c.loop-at.invariant.1 n ix places ss u v p in
-      excluded-took c.child_at-k.ensures.end_is v.lends c.child_bits.result c.child_bits.new.st c.child_bits.auto.st refl c.without-w.ensures (c.child_bits.ensures.bits_post n (λ p' b t'. u p' b (q.left.within p' b t'))) q c.loop-at-test.true,
+      excluded-took c.child_at-k.ensures.end_is v.lends c.child_bits.result c.child_bits.new.states c.child_bits.auto.states refl c.without-w.ensures (c.child_bits.ensures.bits_post n (λ p' b t'. u p' b (q.left.within p' b t'))) q c.loop-at-test.true,
 )
 
 pub excluded_bits-returns-clause-excluded_post : goal.excluded_bits-returns-clause-excluded_post
 excluded_bits-returns-clause-excluded_post t c =
     λ n ix places ss u v p. excluded-end (c.loop-at.invariant.1 n ix places ss u v p) c.loop-at-test.false
 
-pub node_bits-bounds-st-0 : goal.node_bits-bounds-st-0
-node_bits-bounds-st-0 t c =
+pub node_bits-bounds-states-0 : goal.node_bits-bounds-states-0
+node_bits-bounds-states-0 t c =
     let r = c.requires in
     omega (arith, node-long r.1.3 r.1.7)
 
@@ -250,7 +251,7 @@ node_bits-put-requires t c =
 
 pub node_bits-returns-in-Boolean-clause-bits_post : goal.node_bits-returns-in-Boolean-clause-bits_post
 node_bits-returns-in-Boolean-clause-bits_post t c =
-    λ n wanted ix places s scores m. node-after c.boolean_at-n.ensures.need-is c.boolean_at-n.ensures.required-end c.boolean_at-n.ensures.optional-end (room c.args.buffers.now) (other_room c.args.buffers.now) c.args.want wanted s m (word-read _ Boolean c.in-Boolean.ensures refl) c.boolean_bits-f.result.bits c.boolean_bits-f.result.next c.boolean_bits-f.new.kids c.put.new.st c.boolean_bits-f.ensures.boolean_post c.put.ensures
+    λ n wanted ix places s scores m. node-after c.boolean_at-n.ensures.need-is c.boolean_at-n.ensures.required-end c.boolean_at-n.ensures.optional-end (room c.args.buffers.now) (other_room c.args.buffers.now) c.args.want wanted s m (word-read _ Boolean c.in-Boolean.ensures refl) c.boolean_bits-f.result.bits c.boolean_bits-f.result.next c.boolean_bits-f.new.kids c.put.new.states c.boolean_bits-f.ensures.boolean_post c.put.ensures
 
 pub optional_bits-returns-then-need-eq0-clause-optional_post : goal.optional_bits-returns-then-need-eq0-clause-optional_post
 optional_bits-returns-then-need-eq0-clause-optional_post t c =
@@ -313,7 +314,7 @@ required_bits-loop-at-preserved-then-takes t c = (
   λ n ix places ss u v p.
       let q = c.loop-at.invariant.1 n ix places ss u v p in
       let h = asked-kind c.args.asks c.child_at-k.result.kind (get_or c.loop-at.kids c.loop-at.at 0) c.takes.result c.child_at-k.ensures.kind-is c.takes.ensures c.if-takes.true in
-      pass-took c.child_at-k.ensures.end_is v.lends c.child_bits-w.result c.child_bits-w.new.st c.child_bits-w.auto.st refl c.max-next.ensures (c.child_bits-w.ensures.bits_post n (λ p' b t. u p' b (q.left.within p' b t))) q c.loop-at-test.true h,
+      pass-took c.child_at-k.ensures.end_is v.lends c.child_bits-w.result c.child_bits-w.new.states c.child_bits-w.auto.states refl c.max-next.ensures (c.child_bits-w.ensures.bits_post n (λ p' b t. u p' b (q.left.within p' b t))) q c.loop-at-test.true h,
 )
 
 pub required_bits-loop-at-smaller : goal.required_bits-loop-at-smaller

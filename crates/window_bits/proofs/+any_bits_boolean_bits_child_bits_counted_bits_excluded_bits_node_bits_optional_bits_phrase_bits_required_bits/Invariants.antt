@@ -1,9 +1,10 @@
--- The cycle's measures, and what its loops keep. Assumes nothing.
+-- Children are one level deeper. What a loop has kept of the wanted documents is what the children before `at` say of
+-- them.
 use Rattle.std.proofs.Common.{Bool, List, ℕ, ◌+◌, ◌-◌, ◌*◌, length}
 use Rattle.meaning.specs.Lent.{Index}
-use Rattle.weight.specs.ScorerTree.{Scorers}
-use Rattle.leaf_scorer.specs.Calls.{lent}
-use Rattle.leaf_scorer.specs.Buffers.{SameBuffers}
+use Rattle.tree_weight.specs.ScorerTree.{Scorers}
+use Rattle.scorer_leaf.specs.Calls.{lists}
+use Rattle.scorer_leaf.specs.Buffers.{SameBuffers}
 use Rattle.window_words.specs.Windowed.{nowhere, places_of, AllWindowed}
 use Rattle.window_leaf.specs.Asks.{Wanted}
 use Rattle.window_bits.specs.Parts.{asked_before, phrases_only, SomeWindowed, PartsKnown}
@@ -42,19 +43,19 @@ decreases-required_bits l = l.depth * 8 + 2
 -- for all that fit the words at entry
 abbrev pub PassKept : List ℕ → List ℕ → List ℕ → List ℕ → Bool → ℕ → ℕ → ℕ → List ℕ → ℕ → ℕ → ℕ → Bool → Type 0
 PassKept postings positions ranges kids₀ last base want depth kids w next at skip =
-    (n : ℕ) (ix : Index) (places : ℕ) (ss : Scorers) → Wanted n base want → PartsKnown (lent n postings positions ranges) ix places ss → SomeWindowed (asked_before last) ix ranges ss depth kids₀ base (places_of want) → PassAt ix ranges depth places last base want ss kids w next at skip
+    (n : ℕ) (ix : Index) (places : ℕ) (ss : Scorers) → Wanted n base want → PartsKnown (lists n postings positions ranges) ix places ss → SomeWindowed (asked_before last) ix ranges ss depth kids₀ base (places_of want) → PassAt ix ranges depth places last base want ss kids w next at skip
 
 abbrev pub AnyKept : List ℕ → List ℕ → List ℕ → List ℕ → ℕ → ℕ → ℕ → List ℕ → ℕ → ℕ → ℕ → Type 0
 AnyKept postings positions ranges kids₀ base want depth kids w next at =
-    (n : ℕ) (ix : Index) (places : ℕ) (ss : Scorers) → Wanted n base want → PartsKnown (lent n postings positions ranges) ix places ss → AllWindowed ix ranges ss depth kids₀ base base nowhere → AnyAt ix ranges depth places base want ss kids w next at
+    (n : ℕ) (ix : Index) (places : ℕ) (ss : Scorers) → Wanted n base want → PartsKnown (lists n postings positions ranges) ix places ss → AllWindowed ix ranges ss depth kids₀ base base nowhere → AnyAt ix ranges depth places base want ss kids w next at
 
 abbrev pub CountKept : List ℕ → List ℕ → List ℕ → List ℕ → ℕ → ℕ → ℕ → List ℕ → List ℕ → ℕ → ℕ → Type 0
 CountKept postings positions ranges kids₀ base want depth kids planes next at =
-    (n : ℕ) (ix : Index) (places : ℕ) (ss : Scorers) → Wanted n base want → PartsKnown (lent n postings positions ranges) ix places ss → AllWindowed ix ranges ss depth kids₀ base base nowhere → CountAt ix ranges depth places base want ss kids planes next at
+    (n : ℕ) (ix : Index) (places : ℕ) (ss : Scorers) → Wanted n base want → PartsKnown (lists n postings positions ranges) ix places ss → AllWindowed ix ranges ss depth kids₀ base base nowhere → CountAt ix ranges depth places base want ss kids planes next at
 
 abbrev pub ExcludedKept : List ℕ → List ℕ → List ℕ → List ℕ → ℕ → ℕ → ℕ → List ℕ → ℕ → ℕ → Type 0
 ExcludedKept postings positions ranges kids₀ base want depth kids w at =
-    (n : ℕ) (ix : Index) (places : ℕ) (ss : Scorers) → Wanted n base want → PartsKnown (lent n postings positions ranges) ix places ss → AllWindowed ix ranges ss depth kids₀ base base nowhere → ExcludedAt ix ranges depth places base want ss kids w at
+    (n : ℕ) (ix : Index) (places : ℕ) (ss : Scorers) → Wanted n base want → PartsKnown (lists n postings positions ranges) ix places ss → AllWindowed ix ranges ss depth kids₀ base base nowhere → ExcludedAt ix ranges depth places base want ss kids w at
 
 abbrev pub invariant-any_bits-loop-at : goal.invariant-any_bits-loop-at
 invariant-any_bits-loop-at l = SameBuffers l.initial.buffers l.buffers × AnyKept l.window.reader.postings.now l.window.reader.positions.now l.window.reader.ranges.now l.fn.kids l.window.base l.want l.depth l.kids l.w l.next l.at

@@ -1,9 +1,10 @@
--- The answers of the cycle: a node's scores, a Boolean's, and those of its children. Assumes nothing.
+-- A node's score is added to the sum of each wanted document: a constant, a leaf's score, or a Boolean's own sums,
+-- narrowed.
 use Rattle.std.proofs.Common.{rules, refl, sym, ◌∙◌, arith}
 use Rattle.std.proofs.lemmas.Bool.{and_parts, eqb-true, eqb-false}
-use Rattle.node.specs.declared.NodeKind.TheVariants.{Term, Phrase, Boolean}
-use Rattle.node.proofs.Windows.{word-read, word-unread}
-use Rattle.leaf_scorer.specs.Buffers.{room, other_room}
+use Rattle.tree_node.specs.declared.NodeKind.TheVariants.{Term, Phrase, Boolean}
+use Rattle.tree_node.proofs.Windows.{word-read, word-unread}
+use Rattle.scorer_leaf.specs.Buffers.{room, other_room}
 use Rattle.window_score.proofs.Required.{required-start, required-end, required-there, required-skip, required-child, required-term, required-took, required-term-took}
 use Rattle.window_score.proofs.Optional.{optional-start, optional-end, optional-there, optional-long, optional-ask, optional-answer, optional-left, optional-child, optional-term, optional-took, optional-term-took}
 use Rattle.window_score.proofs.Splits.{zeros, zero-sums}
@@ -11,7 +12,7 @@ use Rattle.window_score.proofs.Groups.{root-group-as, after-ask, after-root-join
 use Rattle.window_score.proofs.Booleans.{parts-lie, required-lies, alone-ask, group-ask, group-fits, own-ask, own-add, own-done, root-parts-as, root-alone, root-only, root-both-ask, root-both}
 use Rattle.window_score.proofs.Joined.{straight-ask, straight-done, joined-ask, joined-done, front-narrow, next-ask, next-root, whole-ask, whole-narrow, last-ask, last-root, required-is-only}
 use Rattle.window_score.proofs.Nodes.{node-long, not-constant, constant-number, constant-ask, constant-done, phrase-weighted, zero-ask, zero-done, boolean-deep, boolean-ask, boolean-done}
-use Rattle.leaf_score.proofs.Bounds.{zero-64}
+use Rattle.score_leaf.proofs.Bounds.{zero-64}
 use Rattle.std.proofs.Math.Seq.{length_front}
 use Rattle.std.proofs.lemmas.List.{length-take}
 use Rattle.window_words.proofs.Parts.{back-length}
@@ -234,8 +235,8 @@ pub group_scores-returns-clause-root_group_post : goal.group_scores-returns-clau
 group_scores-returns-clause-root_group_post t c =
     λ n ix places j rs os L A. more-root c.args.sums.now c.requires.0 c.if-n.false c.required_scores-2.new.kids c.required_scores-2.new.sums c.required_scores-2.auto.kids c.required_scores-2.ensures.required_post c.add_narrowed.new.sums c.add_narrowed.ensures (room c.required_scores-2.new.buffers) (other_room c.required_scores-2.new.buffers) c.required_scores-2.ensures.same_buffers.starts_length c.required_scores-2.ensures.same_buffers.other_starts_length c.required_scores-3.new.kids c.required_scores-3.new.sums c.required_scores-3.ensures.required_post (n, ix, places, j, rs, os, 0, L, A, zero-sums c.args.sums.now c.requires.0)
 
-pub node_scores-bounds-st-0 : goal.node_scores-bounds-st-0
-node_scores-bounds-st-0 t c =
+pub node_scores-bounds-states-0 : goal.node_scores-bounds-states-0
+node_scores-bounds-states-0 t c =
     omega (arith, node-long c.requires)
 
 pub node_scores-score_node_at-requires : goal.node_scores-score_node_at-requires
@@ -323,48 +324,48 @@ optional_scores-optional_child_bits-x-requires-clause-unneeded t c =
 pub optional_scores-slice_bounds-term_scores-end :
     goal.optional_scores-slice_bounds-term_scores-end
 optional_scores-slice_bounds-term_scores-end t c =
-    omega (arith, c.child_at-k.ensures.end_is, (optional-there c.loop-at.invariant.at c.loop-at-test.true c.requires).fits, back-length c.loop-at.kids c.optional_child_bits-x.new.st c.loop-at.at c.child_at-k.result.end c.optional_child_bits-x.auto.st)
+    omega (arith, c.child_at-k.ensures.end_is, (optional-there c.loop-at.invariant.at c.loop-at-test.true c.requires).fits, back-length c.loop-at.kids c.optional_child_bits-x.new.states c.loop-at.at c.child_at-k.result.end c.optional_child_bits-x.auto.states)
 
 pub optional_scores-term_scores-requires : goal.optional_scores-term_scores-requires
 optional_scores-term_scores-requires t c =
-    optional-term (optional-answer c.loop-at.invariant.at c.loop-at-test.true c.child_at-k.result.end c.child_at-k.ensures.end_is c.loop-at.invariant.buffers.starts_length c.loop-at.invariant.buffers.other_starts_length c.optional_child_bits-x.result c.optional_child_bits-x.new.st c.optional_child_bits-x.auto.st c.optional_child_bits-x.ensures.unneeded c.optional_child_bits-x.ensures.needed) _ _ (c.optional_child_bits-x.ensures.same_buffers.starts_length ∙ c.loop-at.invariant.buffers.starts_length) (c.optional_child_bits-x.ensures.same_buffers.other_starts_length ∙ c.loop-at.invariant.buffers.other_starts_length) (word-read _ Term (sym c.in-Term.is ∙ c.child_at-k.ensures.kind-is) refl) c.requires
+    optional-term (optional-answer c.loop-at.invariant.at c.loop-at-test.true c.child_at-k.result.end c.child_at-k.ensures.end_is c.loop-at.invariant.buffers.starts_length c.loop-at.invariant.buffers.other_starts_length c.optional_child_bits-x.result c.optional_child_bits-x.new.states c.optional_child_bits-x.auto.states c.optional_child_bits-x.ensures.unneeded c.optional_child_bits-x.ensures.needed) _ _ (c.optional_child_bits-x.ensures.same_buffers.starts_length ∙ c.loop-at.invariant.buffers.starts_length) (c.optional_child_bits-x.ensures.same_buffers.other_starts_length ∙ c.loop-at.invariant.buffers.other_starts_length) (word-read _ Term (sym c.in-Term.is ∙ c.child_at-k.ensures.kind-is) refl) c.requires
 
 pub optional_scores-slice_bounds-node_scores-end :
     goal.optional_scores-slice_bounds-node_scores-end
 optional_scores-slice_bounds-node_scores-end t c =
-    omega (arith, c.child_at-k.ensures.end_is, (optional-there c.loop-at.invariant.at c.loop-at-test.true c.requires).fits, back-length c.loop-at.kids c.optional_child_bits-x.new.st c.loop-at.at c.child_at-k.result.end c.optional_child_bits-x.auto.st)
+    omega (arith, c.child_at-k.ensures.end_is, (optional-there c.loop-at.invariant.at c.loop-at-test.true c.requires).fits, back-length c.loop-at.kids c.optional_child_bits-x.new.states c.loop-at.at c.child_at-k.result.end c.optional_child_bits-x.auto.states)
 
 pub optional_scores-node_scores-requires : goal.optional_scores-node_scores-requires
 optional_scores-node_scores-requires t c =
-    (omega (arith, c.decreases), optional-child (optional-answer c.loop-at.invariant.at c.loop-at-test.true c.child_at-k.result.end c.child_at-k.ensures.end_is c.loop-at.invariant.buffers.starts_length c.loop-at.invariant.buffers.other_starts_length c.optional_child_bits-x.result c.optional_child_bits-x.new.st c.optional_child_bits-x.auto.st c.optional_child_bits-x.ensures.unneeded c.optional_child_bits-x.ensures.needed) _ _ (c.optional_child_bits-x.ensures.same_buffers.starts_length ∙ c.loop-at.invariant.buffers.starts_length) (c.optional_child_bits-x.ensures.same_buffers.other_starts_length ∙ c.loop-at.invariant.buffers.other_starts_length) c.requires)
+    (omega (arith, c.decreases), optional-child (optional-answer c.loop-at.invariant.at c.loop-at-test.true c.child_at-k.result.end c.child_at-k.ensures.end_is c.loop-at.invariant.buffers.starts_length c.loop-at.invariant.buffers.other_starts_length c.optional_child_bits-x.result c.optional_child_bits-x.new.states c.optional_child_bits-x.auto.states c.optional_child_bits-x.ensures.unneeded c.optional_child_bits-x.ensures.needed) _ _ (c.optional_child_bits-x.ensures.same_buffers.starts_length ∙ c.loop-at.invariant.buffers.starts_length) (c.optional_child_bits-x.ensures.same_buffers.other_starts_length ∙ c.loop-at.invariant.buffers.other_starts_length) c.requires)
 
 pub optional_scores-loop-at-smaller-in-Term :
     goal.optional_scores-loop-at-smaller-in-Term
 optional_scores-loop-at-smaller-in-Term t c =
-    omega (arith, c.child_at-k.ensures.end_is, (optional-there c.loop-at.invariant.at c.loop-at-test.true c.requires).long, c.loop-at-test.true, back-length c.loop-at.kids c.optional_child_bits-x.new.st c.loop-at.at c.child_at-k.result.end c.optional_child_bits-x.auto.st)
+    omega (arith, c.child_at-k.ensures.end_is, (optional-there c.loop-at.invariant.at c.loop-at-test.true c.requires).long, c.loop-at-test.true, back-length c.loop-at.kids c.optional_child_bits-x.new.states c.loop-at.at c.child_at-k.result.end c.optional_child_bits-x.auto.states)
 
 pub optional_scores-loop-at-preserved-in-Term :
     goal.optional_scores-loop-at-preserved-in-Term
 optional_scores-loop-at-preserved-in-Term t c =
-    record { long = back-length c.loop-at.kids c.optional_child_bits-x.new.st c.loop-at.at c.child_at-k.result.end c.optional_child_bits-x.auto.st ∙ c.loop-at.invariant.long; buffers = search rules; at = optional-term-took (optional-answer c.loop-at.invariant.at c.loop-at-test.true c.child_at-k.result.end c.child_at-k.ensures.end_is c.loop-at.invariant.buffers.starts_length c.loop-at.invariant.buffers.other_starts_length c.optional_child_bits-x.result c.optional_child_bits-x.new.st c.optional_child_bits-x.auto.st c.optional_child_bits-x.ensures.unneeded c.optional_child_bits-x.ensures.needed) _ _ (c.optional_child_bits-x.ensures.same_buffers.starts_length ∙ c.loop-at.invariant.buffers.starts_length) (c.optional_child_bits-x.ensures.same_buffers.other_starts_length ∙ c.loop-at.invariant.buffers.other_starts_length) c.term_scores.new.sums c.term_scores.ensures }
+    record { long = back-length c.loop-at.kids c.optional_child_bits-x.new.states c.loop-at.at c.child_at-k.result.end c.optional_child_bits-x.auto.states ∙ c.loop-at.invariant.long; buffers = search rules; at = optional-term-took (optional-answer c.loop-at.invariant.at c.loop-at-test.true c.child_at-k.result.end c.child_at-k.ensures.end_is c.loop-at.invariant.buffers.starts_length c.loop-at.invariant.buffers.other_starts_length c.optional_child_bits-x.result c.optional_child_bits-x.new.states c.optional_child_bits-x.auto.states c.optional_child_bits-x.ensures.unneeded c.optional_child_bits-x.ensures.needed) _ _ (c.optional_child_bits-x.ensures.same_buffers.starts_length ∙ c.loop-at.invariant.buffers.starts_length) (c.optional_child_bits-x.ensures.same_buffers.other_starts_length ∙ c.loop-at.invariant.buffers.other_starts_length) c.term_scores.new.sums c.term_scores.ensures }
 
 pub optional_scores-loop-at-smaller-in_default :
     goal.optional_scores-loop-at-smaller-in_default
 optional_scores-loop-at-smaller-in_default t c =
-    omega (arith, c.child_at-k.ensures.end_is, (optional-there c.loop-at.invariant.at c.loop-at-test.true c.requires).long, c.loop-at-test.true, back-length c.loop-at.kids c.optional_child_bits-x.new.st c.loop-at.at c.child_at-k.result.end c.optional_child_bits-x.auto.st, back-length (put c.loop-at.kids c.loop-at.at c.child_at-k.result.end c.optional_child_bits-x.new.st) c.node_scores.new.st c.loop-at.at c.child_at-k.result.end c.node_scores.auto.st)
+    omega (arith, c.child_at-k.ensures.end_is, (optional-there c.loop-at.invariant.at c.loop-at-test.true c.requires).long, c.loop-at-test.true, back-length c.loop-at.kids c.optional_child_bits-x.new.states c.loop-at.at c.child_at-k.result.end c.optional_child_bits-x.auto.states, back-length (put c.loop-at.kids c.loop-at.at c.child_at-k.result.end c.optional_child_bits-x.new.states) c.node_scores.new.states c.loop-at.at c.child_at-k.result.end c.node_scores.auto.states)
 
 pub optional_scores-loop-at-preserved-in_default :
     goal.optional_scores-loop-at-preserved-in_default
 optional_scores-loop-at-preserved-in_default t c =
-    record { long = back-length (put c.loop-at.kids c.loop-at.at c.child_at-k.result.end c.optional_child_bits-x.new.st) c.node_scores.new.st c.loop-at.at c.child_at-k.result.end c.node_scores.auto.st ∙ back-length c.loop-at.kids c.optional_child_bits-x.new.st c.loop-at.at c.child_at-k.result.end c.optional_child_bits-x.auto.st ∙ c.loop-at.invariant.long; buffers = search rules; at = optional-took (optional-answer c.loop-at.invariant.at c.loop-at-test.true c.child_at-k.result.end c.child_at-k.ensures.end_is c.loop-at.invariant.buffers.starts_length c.loop-at.invariant.buffers.other_starts_length c.optional_child_bits-x.result c.optional_child_bits-x.new.st c.optional_child_bits-x.auto.st c.optional_child_bits-x.ensures.unneeded c.optional_child_bits-x.ensures.needed) _ _ (c.optional_child_bits-x.ensures.same_buffers.starts_length ∙ c.loop-at.invariant.buffers.starts_length) (c.optional_child_bits-x.ensures.same_buffers.other_starts_length ∙ c.loop-at.invariant.buffers.other_starts_length) c.node_scores.new.st c.node_scores.new.sums c.node_scores.auto.st c.node_scores.ensures.scores_post }
+    record { long = back-length (put c.loop-at.kids c.loop-at.at c.child_at-k.result.end c.optional_child_bits-x.new.states) c.node_scores.new.states c.loop-at.at c.child_at-k.result.end c.node_scores.auto.states ∙ back-length c.loop-at.kids c.optional_child_bits-x.new.states c.loop-at.at c.child_at-k.result.end c.optional_child_bits-x.auto.states ∙ c.loop-at.invariant.long; buffers = search rules; at = optional-took (optional-answer c.loop-at.invariant.at c.loop-at-test.true c.child_at-k.result.end c.child_at-k.ensures.end_is c.loop-at.invariant.buffers.starts_length c.loop-at.invariant.buffers.other_starts_length c.optional_child_bits-x.result c.optional_child_bits-x.new.states c.optional_child_bits-x.auto.states c.optional_child_bits-x.ensures.unneeded c.optional_child_bits-x.ensures.needed) _ _ (c.optional_child_bits-x.ensures.same_buffers.starts_length ∙ c.loop-at.invariant.buffers.starts_length) (c.optional_child_bits-x.ensures.same_buffers.other_starts_length ∙ c.loop-at.invariant.buffers.other_starts_length) c.node_scores.new.states c.node_scores.new.sums c.node_scores.auto.states c.node_scores.ensures.scores_post }
 
 pub optional_scores-loop-at-smaller : goal.optional_scores-loop-at-smaller
 optional_scores-loop-at-smaller t c =
-    omega (arith, c.child_at-k.ensures.end_is, (optional-there c.loop-at.invariant.at c.loop-at-test.true c.requires).long, c.loop-at-test.true, back-length c.loop-at.kids c.optional_child_bits-x.new.st c.loop-at.at c.child_at-k.result.end c.optional_child_bits-x.auto.st)
+    omega (arith, c.child_at-k.ensures.end_is, (optional-there c.loop-at.invariant.at c.loop-at-test.true c.requires).long, c.loop-at-test.true, back-length c.loop-at.kids c.optional_child_bits-x.new.states c.loop-at.at c.child_at-k.result.end c.optional_child_bits-x.auto.states)
 
 pub optional_scores-loop-at-preserved : goal.optional_scores-loop-at-preserved
 optional_scores-loop-at-preserved t c =
-    record { long = back-length c.loop-at.kids c.optional_child_bits-x.new.st c.loop-at.at c.child_at-k.result.end c.optional_child_bits-x.auto.st ∙ c.loop-at.invariant.long; buffers = search rules; at = optional-left (optional-answer c.loop-at.invariant.at c.loop-at-test.true c.child_at-k.result.end c.child_at-k.ensures.end_is c.loop-at.invariant.buffers.starts_length c.loop-at.invariant.buffers.other_starts_length c.optional_child_bits-x.result c.optional_child_bits-x.new.st c.optional_child_bits-x.auto.st c.optional_child_bits-x.ensures.unneeded c.optional_child_bits-x.ensures.needed) c.if-x-ne0.false }
+    record { long = back-length c.loop-at.kids c.optional_child_bits-x.new.states c.loop-at.at c.child_at-k.result.end c.optional_child_bits-x.auto.states ∙ c.loop-at.invariant.long; buffers = search rules; at = optional-left (optional-answer c.loop-at.invariant.at c.loop-at-test.true c.child_at-k.result.end c.child_at-k.ensures.end_is c.loop-at.invariant.buffers.starts_length c.loop-at.invariant.buffers.other_starts_length c.optional_child_bits-x.result c.optional_child_bits-x.new.states c.optional_child_bits-x.auto.states c.optional_child_bits-x.ensures.unneeded c.optional_child_bits-x.ensures.needed) c.if-x-ne0.false }
 
 pub optional_scores-returns-clause-optional_post : goal.optional_scores-returns-clause-optional_post
 optional_scores-returns-clause-optional_post t c =
@@ -409,12 +410,12 @@ required_scores-loop-at-preserved-in-Term t c =
 pub required_scores-loop-at-smaller-in_default :
     goal.required_scores-loop-at-smaller-in_default
 required_scores-loop-at-smaller-in_default t c =
-    omega (arith, c.child_at-k.ensures.end_is, (required-there c.loop-at.invariant.at c.loop-at-test.true c.requires).long, c.loop-at-test.true, back-length c.loop-at.kids c.node_scores.new.st c.loop-at.at c.child_at-k.result.end c.node_scores.auto.st)
+    omega (arith, c.child_at-k.ensures.end_is, (required-there c.loop-at.invariant.at c.loop-at-test.true c.requires).long, c.loop-at-test.true, back-length c.loop-at.kids c.node_scores.new.states c.loop-at.at c.child_at-k.result.end c.node_scores.auto.states)
 
 pub required_scores-loop-at-preserved-in_default :
     goal.required_scores-loop-at-preserved-in_default
 required_scores-loop-at-preserved-in_default t c =
-    record { long = back-length c.loop-at.kids c.node_scores.new.st c.loop-at.at c.child_at-k.result.end c.node_scores.auto.st ∙ c.loop-at.invariant.long; buffers = search rules; at = required-took c.loop-at.invariant.at c.loop-at-test.true c.child_at-k.result.end c.child_at-k.ensures.end_is (eqb-true _ 1 (sym c.child_at-k.ensures.scores-is ∙ c.if-k.true)) (room c.loop-at.buffers) (other_room c.loop-at.buffers) c.loop-at.invariant.buffers.starts_length c.loop-at.invariant.buffers.other_starts_length c.node_scores.new.st c.node_scores.new.sums c.node_scores.auto.st c.node_scores.ensures.scores_post }
+    record { long = back-length c.loop-at.kids c.node_scores.new.states c.loop-at.at c.child_at-k.result.end c.node_scores.auto.states ∙ c.loop-at.invariant.long; buffers = search rules; at = required-took c.loop-at.invariant.at c.loop-at-test.true c.child_at-k.result.end c.child_at-k.ensures.end_is (eqb-true _ 1 (sym c.child_at-k.ensures.scores-is ∙ c.if-k.true)) (room c.loop-at.buffers) (other_room c.loop-at.buffers) c.loop-at.invariant.buffers.starts_length c.loop-at.invariant.buffers.other_starts_length c.node_scores.new.states c.node_scores.new.sums c.node_scores.auto.states c.node_scores.ensures.scores_post }
 
 pub required_scores-loop-at-smaller : goal.required_scores-loop-at-smaller
 required_scores-loop-at-smaller t c =

@@ -1,6 +1,7 @@
--- The measures of the cycle, and what its loops keep. Assumes nothing.
+-- Children are one level deeper. The scores of the children before `at` are added to the sums, in the order of their
+-- parts.
 use Rattle.std.proofs.Common.{length, ◌-◌, ◌≡◌, ◌+◌, ◌*◌}
-use Rattle.leaf_scorer.specs.Buffers.{room, other_room, SameBuffers}
+use Rattle.scorer_leaf.specs.Buffers.{room, other_room, SameBuffers}
 use Rattle.window_score.specs.Asked.{reads_of}
 use Rattle.window_score.proofs.Required.{RequiredAt}
 use Rattle.window_score.proofs.Optional.{OptionalAt}

@@ -1,3 +1,4 @@
+-- Where some optional children are needed the child was asked before and has its bits stored; else it is asked now.
 use Rattle.std.proofs.Common.{refl, ap, ◌∙◌, ◌&&◌, ℕ}
 use Rattle.bits.specs.Bit.{bit}
 use Rattle.window_score.proofs.optional_child_bits.Goals as goal

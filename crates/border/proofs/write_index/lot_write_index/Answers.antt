@@ -1,4 +1,4 @@
--- `lot_write_index` meets its contract: one law for each way through it, over the writer's own contract. Assumes nothing.
+-- A short `answer` gives 16 or a lower number and changes nothing; with a longer one all is as the writer leaves it.
 use Rattle.border.proofs.Told.{two-written}
 use Rattle.border.proofs.WriteTold.{write-told-short, write-told-refused, write-told-done}
 use Rattle.border.proofs.write_index.lot_write_index.Goals as goal

@@ -13,14 +13,14 @@ score_node_at-requires c =
     let a = c.args in
     let live = a.reader.now.live.now in
     let q = c.requires in
-    root-words q.0 q.1 live q.2 q.7.2.0 q.3 q.7.2.1 q.4 q.7.2.2 a.st.now q.7.2.3
+    root-words q.0 q.1 live q.2 q.7.2.0 q.3 q.7.2.1 q.4 q.7.2.2 a.states.now q.7.2.3
 
 pub one_score-s-requires : goal.one_score-s-requires
 one_score-s-requires c =
     let a = c.args in
     let documents = a.reader.now.max_doc in
     let live = a.reader.now.live.now in
-    let W = asked-any documents live c.score_node_at.result a.st.now a.doc_base a.c a.heap.now c.requires c.score_node_at.ensures in
+    let W = asked-any documents live c.score_node_at.result a.states.now a.doc_base a.c a.heap.now c.requires c.score_node_at.ensures in
     (W.sc, W.scores)
 
 pub loop-doc-init : goal.loop-doc-init
@@ -36,7 +36,7 @@ stepped-c-requires-clause-ready c =
     let documents = a.reader.now.max_doc in
     let live = a.reader.now.live.now in
     let l = c.loop-doc in
-    let W = asked-any documents live c.score_node_at.result a.st.now a.doc_base a.c a.heap.now c.requires c.score_node_at.ensures in
+    let W = asked-any documents live c.score_node_at.result a.states.now a.doc_base a.c a.heap.now c.requires c.score_node_at.ensures in
     let R = any-root documents live c.one_score-s.result c.score_node_at.result c.one_score-s.ensures c.requires.7.2.0 c.requires.7.2.1 W in
     any-ready documents live c.one_score-s.result a.doc_base a.c a.heap.now l.c l.heap l.doc l.invariant.collected c.requires.7.2.0 W.sc R c.requires.7.1 (a.doc_base + l.doc) (omega arith)
 
@@ -45,7 +45,7 @@ stepped-c-requires-clause-t c =
     let a = c.args in
     let documents = a.reader.now.max_doc in
     let live = a.reader.now.live.now in
-    let W = asked-any documents live c.score_node_at.result a.st.now a.doc_base a.c a.heap.now c.requires c.score_node_at.ensures in
+    let W = asked-any documents live c.score_node_at.result a.states.now a.doc_base a.c a.heap.now c.requires c.score_node_at.ensures in
     let R = any-root documents live c.one_score-s.result c.score_node_at.result c.one_score-s.ensures c.requires.7.2.0 c.requires.7.2.1 W in
     nonneg-clear c.one_score-s.result R.small.sign
 
@@ -69,5 +69,5 @@ returns c =
     let live = a.reader.now.live.now in
     let l = c.loop-doc in
     λ E norms table places depth same ix s scores H.
-    let W = any-is documents live c.score_node_at.result E norms table places depth a.st.now c.score_node_at.ensures c.requires.6 same ix s scores (root-page E norms live table ix places s depth scores a.st.now H) in
+    let W = any-is documents live c.score_node_at.result E norms table places depth a.states.now c.score_node_at.ensures c.requires.6 same ix s scores (root-page E norms live table ix places s depth scores a.states.now H) in
     rw same (any-done documents live c.one_score-s.result a.doc_base a.c a.heap.now l.c l.heap l.doc l.invariant.collected (omega (arith, c.loop-doc-test.false, c.loop-doc.auto.doc-end)) ix s W.sc W.is (any-root documents live c.one_score-s.result c.score_node_at.result c.one_score-s.ensures ix s W))

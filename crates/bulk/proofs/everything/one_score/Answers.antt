@@ -1,4 +1,4 @@
--- `one_score` meets its contract. Assumes nothing.
+-- Where there is no frequency a document scores the constant, or 0 without one.
 use Rattle.bulk.proofs.AnyRoot.{constant_number, score-or-zero}
 use Rattle.bulk.proofs.everything.one_score.Goals as goal
 

@@ -1,11 +1,10 @@
--- `posting_score` meets its contract. Assumes nothing.
-use native.Mathlib.Omega.{arith}
+-- A node with a constant gives it to each posting; another weighs the posting's frequency by its document's norm byte.
 use mathlib.Core.Path.{◌≡◌, sym, subst}
 use Prim.Native.Nat.{◌^◌}
 use lib.Ieee.{Float}
 use Rattle.ieee754.specs.Nonneg.{AtMost}
-use Rattle.weight.specs.ScorerTree.{term, leaf_score}
-use Rattle.leaf_score.proofs.Constants.{constant-some, constant-none}
+use Rattle.tree_weight.specs.ScorerTree.{term, leaf_score}
+use Rattle.score_leaf.proofs.Constants.{constant-some, constant-none}
 use Rattle.bulk_term.proofs.PostingScores.{posting-constant, posting-weighs, posting-weighted}
 use Rattle.bulk_term.proofs.posting.posting_score.Goals as goal
 
@@ -22,8 +21,7 @@ returns-in-Some c = let a = c.args in
 pub weighted-requires : goal.weighted-requires
 weighted-requires c = let s = c in
     let a = s.args in
-    let q = posting-weighs a.norms.now a.inverses.now a.n a.frequency a.doc s.requires.0 s.requires.1 s.requires.2 s.requires.3 (constant-none a.n c.in-None.ensures) in
-    record { frequency_bound = (q.frequency-few, (q.number, q.field-few)); doc_in_bounds = q.byte-there; doc_in_bounds_2 = q.inverse-there }
+    posting-weighs a.norms.now a.inverses.now a.n a.frequency a.doc s.requires.0 s.requires.1 s.requires.2 s.requires.3 (constant-none a.n c.in-None.ensures)
 
 pub returns-in-None : goal.returns-in-None
 returns-in-None c = let a = c.args in

@@ -1,4 +1,4 @@
--- `codes::encode` meets its contract: the two halves share no bit, so the or is the sum, of a negative upper half too. Assumes nothing.
+-- The two halves share no bit, so the or is the sum, of a negative upper half too.
 use Rattle.std.proofs.Common.{ap, ◌∙◌, ◌-◌, ◌*◌, ◌%◌, ◌^◌, arith, ℤ, pos, bit_or, w32, w64}
 use mir.Val.{of_z, to_z}
 use mir.ValLaws.{to_z-of_z}

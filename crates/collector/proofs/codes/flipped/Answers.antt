@@ -1,4 +1,4 @@
--- `codes::flipped` meets its contract: the shift that copies the sign is the mask. Assumes nothing.
+-- Shifting the sign through all bits makes the mask that inverts a negative int's lower bits.
 use Rattle.collector.proofs.Halves.{turned}
 use Rattle.collector.proofs.codes.flipped.Goals as goal
 

@@ -1,4 +1,4 @@
--- `codes::float_to_sortable_int` meets its contract: the lower bits of a negative pattern are turned over. Assumes nothing.
+-- The lower bits of a negative pattern are inverted.
 use Rattle.std.proofs.Common.{sym, ap, ◌∙◌, subst, T, w32}
 use mir.ValLaws.{to_z-of_z}
 use lib.Ieee.{binary32, to_bits}

@@ -1,4 +1,4 @@
--- `codes::sortable_bits` meets its contract: the way back turns the same bits. Assumes nothing.
+-- Inverting the same bits again gives the pattern back.
 use Rattle.std.proofs.Common.{ap, ◌∙◌, w32}
 use mir.Val.{of_z}
 use mir.ValLaws.{to_z-of_z}

@@ -1,4 +1,4 @@
--- `codes::to_doc` meets its contract: the mask is the lower word, and one above every document leaves 0. Assumes nothing.
+-- The mask is the lower word, and one above every document leaves 0.
 use Rattle.std.proofs.Common.{ap, ◌∙◌, ◌-◌, ℤ, nat_abs}
 use Rattle.meaning.specs.Hits.{to_doc}
 use Rattle.collector.proofs.Halves.{low-is}

@@ -1,4 +1,4 @@
--- `codes::to_score` meets its contract: the float that has the score's bits. Assumes nothing.
+-- The score is the float that has the code's upper half as its bits.
 use Rattle.std.proofs.Common.{rules}
 use Rattle.meaning.specs.Hits.{to_score}
 use Rattle.collector.proofs.codes.to_score.Goals as goal

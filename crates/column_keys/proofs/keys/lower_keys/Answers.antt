@@ -1,3 +1,4 @@
+-- Each kind of lower end lets in the keys from one key on; one that excludes the largest key lets in none.
 use Rattle.std.proofs.Common.{refl, arith}
 use Rattle.column_keys.proofs.KeyOrder.{lower-unbounded, lower-included, lower-excluded, lower-nothing}
 use Rattle.column_keys.proofs.keys.lower_keys.Goals as goal

@@ -1,3 +1,4 @@
+-- Each kind of upper end lets in the keys up to one key; one that excludes key 0 lets in none.
 use Rattle.std.proofs.Common.{refl, arith}
 use Rattle.column_keys.proofs.KeyOrder.{upper-unbounded, upper-included, upper-excluded, upper-nothing}
 use Rattle.column_keys.proofs.keys.upper_keys.Goals as goal

@@ -1,4 +1,4 @@
--- One line more.
+-- Each turn puts one hit's line behind the others; a line has at most 30 bytes, so all fit.
 use Rattle.std.proofs.Common.{rules, ◌≡◌, sym, ap, ◌∙◌, List, ◌++◌, append-nil, ℕ, length, take, length-append, slice_index_or, pos, arith, to_z, of_z, w64, ℤ}
 use Rattle.hits_text.specs.Text.{hit_line, hit_lines}
 use Rattle.hits_text.proofs.Putting.{put-more}

@@ -1,4 +1,4 @@
--- `push_hex` meets its contract: the digits before the last, then the last. Assumes nothing.
+-- The digits before the last are pushed first, then the last.
 use Rattle.std.proofs.Common.{sym, ap, ◌∙◌, List, [], ◌∷◌, ◌++◌, ℕ, ◌-◌, ◌/◌, length, length-append, append-nil, arith}
 use Rattle.hits_text.specs.Text.{hex_digits}
 use Rattle.hits_text.proofs.Putting.{put-more}

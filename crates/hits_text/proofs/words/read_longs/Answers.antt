@@ -1,4 +1,4 @@
--- One long word more, and at the end all of them.
+-- Each turn reads one 64-bit word more; at the end all whole ones of the file stand at the front.
 use Rattle.std.proofs.Common.{sym, ap, ◌∙◌, ℕ, List, [], ◌/◌, length, w64, arith}
 use Rattle.std.specs.Int.{from_le_bytes}
 use lib.ListN.{get_or}

@@ -1,4 +1,4 @@
--- The long words so far.
+-- The first i places hold the first i 64-bit words of the file.
 use Rattle.std.proofs.Common.{◌≡◌, take}
 use Rattle.meaning.specs.Below.{list_to}
 use Rattle.hits_text.specs.Text.{long_at}

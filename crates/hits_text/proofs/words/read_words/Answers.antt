@@ -1,9 +1,9 @@
--- One word more, and at the end all of them.
+-- Each turn reads one word more; at the end all whole ones of the file stand at the front.
 use Rattle.std.proofs.Common.{sym, ap, ◌∙◌, ℕ, List, [], ◌/◌, length, w32, arith}
 use Rattle.std.specs.Int.{from_le_bytes}
 use lib.ListN.{get_or}
 use Rattle.meaning.proofs.Below.{list_to-zero}
-use Rattle.hits_text.specs.Text.{word_at, words_of}
+use Rattle.hits_text.specs.Text.{word_at, file_words}
 use Rattle.hits_text.proofs.Filling.{filled_more, filled-all, chunk-word}
 use Rattle.hits_text.proofs.words.read_words.Goals as goal
 
@@ -19,5 +19,5 @@ loop-i-preserved c =
     (c.from_le_bytes.ensures ∙ ap (λ (chunks : List (List ℕ)). from_le_bytes w32 (get_or chunks l.i [])) c.as_chunks.ensures.front ∙ chunk-word bytes n l.i (omega arith))
 
 pub returns : goal.returns
-unfolding words_of
+unfolding file_words
 returns c = filled-all c.loop-i.words _ _ _ (word_at c.args.bytes.now) c.loop-i.invariant (omega arith) c.as_chunks.ensures.front_len

@@ -1,4 +1,4 @@
--- The words so far.
+-- The first i places hold the first i words of the file.
 use Rattle.std.proofs.Common.{◌≡◌, take}
 use Rattle.meaning.specs.Below.{list_to}
 use Rattle.hits_text.specs.Text.{word_at}

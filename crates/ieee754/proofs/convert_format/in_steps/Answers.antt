@@ -1,4 +1,4 @@
--- `in_steps` meets its contract: what each range of the rounded pattern gives. Assumes nothing.
+-- The rounded pattern overflows, is normal or is subnormal: what each of the three gives.
 use mathlib.Core.Path.{sym, ap, ◌∙◌, subst}
 use Prim.Native.Nat.{ℕ, ◌-◌, ◌*◌, ◌^◌, ◌≤◌, ◌<◌}
 use native.Mathlib.Omega.{arith}

@@ -1,4 +1,4 @@
--- `narrow_in_steps` meets its contract: `in_steps` rounds the pattern without its sign, and the sign goes through. Assumes nothing.
+-- The pattern is rounded without its sign, and the sign goes through.
 use mathlib.Core.Path.{sym, ap, ◌∙◌, subst}
 use Prim.Native.Nat.{◌-◌, ◌^◌}
 use mathlib.Core.Bool.{Bool, not}

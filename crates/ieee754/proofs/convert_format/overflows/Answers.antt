@@ -1,4 +1,4 @@
--- `overflows` meets its contract. Assumes nothing.
+-- The value rises with the pattern, so one pattern is the least that overflows.
 use Rattle.ieee754.proofs.PatternSteps.{overflow-is}
 use Rattle.ieee754.proofs.convert_format.overflows.Goals as goal
 

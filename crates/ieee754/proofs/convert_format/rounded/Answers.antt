@@ -1,4 +1,4 @@
--- `rounded` meets its contract: 29 digits go. Assumes nothing.
+-- Rounding to 24 digits takes 29 of the 53 away.
 use mathlib.Core.Path.{ap, ◌∙◌}
 use Prim.Native.Nat.{ℕ, ◌+◌, ◌^◌}
 use Rattle.ieee754.proofs.PatternSteps.{rounded-pattern}

@@ -1,4 +1,4 @@
--- `subnormal` meets its contract: the unit of 2^-149 divides the digits, and the multiple is the pattern. Assumes nothing.
+-- The unit of 2^-149 divides the digits, and the multiple is the pattern.
 use mathlib.Core.Path.{◌≡◌, sym, ap, ◌∙◌, subst}
 use Prim.Native.Nat.{ℕ, ◌+◌, ◌-◌, ◌/◌, ◌%◌, ◌^◌, ◌≤◌}
 use native.Mathlib.Nat.{le_trans}

@@ -1,3 +1,4 @@
+-- Each turn looks at one value more: the first of its three words is its presence.
 use Rattle.std.proofs.Common.{◌≡◌, ℕ, ◌*◌, ◌/◌, ◌<◌, List, [], length, get_or, ltb, sym, ap, ◌∙◌, lit<, add-zero, arith}
 use Rattle.meaning.proofs.Below.{any-zero, any-more}
 use Rattle.index.proofs.Chains.{chunk_word}

@@ -1,3 +1,4 @@
+-- `bad` says whether one of the values passed has a presence other than 0 and 1.
 use Rattle.std.proofs.Common.{◌≡◌, ltb, ◌*◌, get_or}
 use Rattle.meaning.specs.Below.{any_below}
 use Rattle.index.proofs.columns.wrong_presence.Given as goal

@@ -1,3 +1,4 @@
+-- Without words every document is live; else bit doc % 64 of word doc / 64 says so.
 use Rattle.std.proofs.Common.{◌≡◌, true, false, eqb, length, get_or, sym, ◌∙◌, ◌/◌, ◌%◌}
 use Rattle.meaning.specs.Live.{is_live}
 use Rattle.bits.proofs.Laws.{bit-tested}

@@ -1,3 +1,4 @@
+-- The iterator counts by the fields' records and the definition by their numbers.
 use Rattle.std.proofs.Common.{rules, arith, tests, ◌∙◌}
 use Rattle.std.proofs.lemmas.Iterator.{YieldsList-from_range}
 use Rattle.std.proofs.lemmas.Iterator.Consumers.{YieldsList-at, YieldsList-from_filter, count_from_yields_List}

@@ -1,3 +1,4 @@
+-- At most 16 fields before this one have norms, N bytes each, so the product fits a usize.
 use Rattle.std.proofs.Common.{◌≤◌, arith}
 use Rattle.meaning.specs.Lent.{has_norms}
 use Rattle.meaning.proofs.Below.{count-le}

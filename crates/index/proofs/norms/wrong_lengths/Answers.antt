@@ -1,3 +1,4 @@
+-- The norm bytes of all fields end where those of a field behind the last one would begin.
 use Rattle.std.proofs.Common.{◌≡◌, ◌+◌, ◌/◌, arith}
 use Rattle.meaning.specs.IndexRefusals.{wrong3}
 use Rattle.index.proofs.Known.{fields-few}

@@ -1,4 +1,4 @@
--- The depth left falls; the clauses left end where all do.
+-- Each call has less depth left; the clauses that are left end where all of the Boolean's do.
 use Rattle.std.proofs.Common.{◌≡◌, ◌+◌, ◌-◌, ◌*◌}
 use Rattle.meaning.specs.Query.{record_children, decode, decode_clauses}
 use Rattle.query.specs.Inner.{end_of_clauses}
@@ -15,4 +15,4 @@ decreases-tree_end l = 2 * l.depth
 
 abbrev pub invariant-clauses_end-loop : goal.invariant-clauses_end-loop
 invariant-clauses_end-loop l =
-    end_of_clauses (decode_clauses l.q (decode l.q l.depth) (l.count - l.counter) l.next) ≡ end_of_clauses (decode_clauses l.q (decode l.q l.depth) (record_children l.q l.at) (l.at + 1))
+    end_of_clauses (decode_clauses l.query (decode l.query l.depth) (l.count - l.counter) l.next) ≡ end_of_clauses (decode_clauses l.query (decode l.query l.depth) (record_children l.query l.at) (l.at + 1))

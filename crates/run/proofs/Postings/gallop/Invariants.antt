@@ -1,3 +1,4 @@
+-- The documents from the cursor up to `low` are below the target; each turn moves `low` on.
 use Rattle.std.proofs.Common.{◌-◌}
 use Rattle.run.proofs.Runs.{Front}
 use Rattle.run.proofs.Postings.gallop.Given as goal

@@ -1,3 +1,4 @@
+-- Documents before `low` are below the target, those from `high` on are not; each turn halves what is between.
 use Rattle.std.proofs.Common.{◌-◌}
 use Rattle.run.proofs.Runs.{Ends}
 use Rattle.run.proofs.Postings.halve.Given as goal

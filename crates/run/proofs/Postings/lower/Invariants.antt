@@ -1,3 +1,4 @@
+-- The documents from the cursor up to `at` are below the target.
 use Rattle.run.proofs.Runs.{Front}
 use Rattle.run.proofs.Postings.lower.Given as goal
 

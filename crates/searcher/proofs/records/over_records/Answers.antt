@@ -1,6 +1,6 @@
 -- The records that the call used were read from the words.
 use Rattle.std.proofs.Common.{◌≡◌, List, ℕ, rules}
-use Rattle.node_words.specs.declared.state.NodeState.{NodeState}
+use Rattle.tree_words.specs.declared.state.NodeState.{NodeState}
 use Rattle.searcher.specs.WorkBuffers.{Packed}
 use Rattle.searcher.proofs.records.over_records.Goals as goal
 

@@ -1,4 +1,4 @@
--- The table holds it.
+-- `ByteLengths` holds the table to SmallFloat's lengths, byte by byte.
 use Rattle.sim.proofs.ByteLengths.{entry-is}
 use Rattle.sim.proofs.lengths.length_of.Goals as goal
 

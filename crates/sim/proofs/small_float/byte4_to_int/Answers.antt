@@ -1,4 +1,4 @@
--- `byte4_to_int` meets its contract. Assumes nothing.
+-- Lengths below 24 are their own bytes; any other is 24 more than the number that the byte less 24 stands for.
 use Rattle.std.proofs.Common.{◌≡◌, ℕ, ◌+◌, ◌-◌, ◌≤◌, ap, ◌∙◌, arith}
 use Rattle.meaning.specs.SmallFloat.{int4_to_long, byte4_to_int}
 use Rattle.sim.proofs.Codes.{int-few, int-many, byte4_to_int-le}

@@ -1,4 +1,4 @@
--- `int4_to_long` meets its contract: the four digits shifted by at most 60 places lose none. Assumes nothing.
+-- The four digits shifted by at most 60 places lose none.
 use Rattle.std.proofs.Common.{ℕ, ◌+◌, ◌-◌, ◌/◌, ◌%◌, ◌≤◌, ◌<◌, ◌∙◌, arith}
 use lib.Pow.{shl_exact}
 use Rattle.sim.proofs.Codes.{int4-few, int4-many}

@@ -1,4 +1,4 @@
--- `int_to_byte4` meets its contract. Assumes nothing.
+-- Lengths below 24 are their own bytes; any other's byte is 24 more than the code of the length less 24.
 use Rattle.std.proofs.Common.{◌≡◌, ℕ, ◌+◌, ◌-◌, ◌≤◌, ap, ◌∙◌, arith}
 use Rattle.meaning.specs.SmallFloat.{long_to_int4, int_to_byte4}
 use Rattle.sim.proofs.Codes.{byte-few, byte-many, int_to_byte4-lt}

@@ -1,5 +1,5 @@
--- `long_to_int4` meets its contract: 64 less the leading zeros is how many digits there are. Assumes nothing.
-use Rattle.std.proofs.Common.{◌≡◌, ℕ, ◌+◌, ◌-◌, ◌*◌, ◌/◌, ◌%◌, ◌^◌, ◌≤◌, ◌<◌, ap, ◌∙◌, subst, arith}
+-- 64 less the leading zeros is how many digits there are.
+use Rattle.std.proofs.Common.{ℕ, ◌+◌, ◌-◌, ◌*◌, ◌/◌, ◌%◌, ◌^◌, ◌≤◌, ◌<◌, ap, ◌∙◌, subst, arith}
 use Rattle.sim.proofs.Codes.{size-leading, size_few, long-few, long-many}
 use Rattle.sim.proofs.small_float.long_to_int4.Goals as goal
 

@@ -1,7 +1,7 @@
--- `postings::copy_positions` meets its contract. Assumes nothing.
+-- Each turn stores one token's position.
 use Rattle.std.proofs.Common.{◌+◌, length, arith}
 use Rattle.meaning.specs.Tokens.{token_at}
-use Rattle.norm_writer.proofs.Filled.{listed}
+use Rattle.token_norms.proofs.Filled.{listed}
 use Rattle.token_writer.proofs.postings.copy_positions.Goals as goal
 
 pub returns : goal.returns

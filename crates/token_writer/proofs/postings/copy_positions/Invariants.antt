@@ -1,4 +1,4 @@
--- The positions so far are the tokens'.
+-- The first j places hold the positions of the first j tokens.
 use Rattle.std.proofs.Common.{◌≡◌, ℕ, ◌+◌, ◌<◌, get_or}
 use Rattle.meaning.specs.Tokens.{token_at}
 use Rattle.token_writer.proofs.postings.copy_positions.Given as goal

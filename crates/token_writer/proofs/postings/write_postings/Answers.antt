@@ -1,4 +1,4 @@
--- `postings::write_postings` meets its contract. Assumes nothing.
+-- Each turn begins a posting or writes the last one again, with one token more.
 use Rattle.std.proofs.Common.{rules, ◌≡◌, refl, sym, ap, ◌∙◌, inl, inr, ◌+◌, ◌-◌, ◌*◌, ◌≤◌, ℕ, true, false, not, cond, eqb, Option, Some, None, length, lit<, arith}
 use Rattle.std.specs.Option.{option_eq}
 use Rattle.std.proofs.lemmas.Bool.{true≢false, false≢true}

@@ -1,8 +1,8 @@
--- `postings::write_record` meets its contract. Assumes nothing.
+-- The N words are stored behind those of the records before.
 use Rattle.std.proofs.Common.{◌+◌, ◌*◌, ap, ◌∙◌, arith}
 use Rattle.std.proofs.lemmas.List.Edits.{sets}
 use borrow.Rule.Slice.PartMut.{mid_len}
-use Rattle.norm_writer.proofs.Stored.{put-sets}
+use Rattle.token_norms.proofs.Stored.{put-sets}
 use Rattle.token_writer.proofs.postings.write_record.Goals as goal
 
 pub returns : goal.returns

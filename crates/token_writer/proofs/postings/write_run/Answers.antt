@@ -1,18 +1,18 @@
--- `postings::write_run` meets its contract. Assumes nothing.
+-- The leaf's tokens end at the cursor that comes back, and their positions are the part of the positions up to it.
 use Rattle.std.proofs.Common.{◌∙◌, ap, ◌+◌, ◌-◌, ◌≤◌, ℕ, length, arith}
 use Rattle.std.proofs.lemmas.List.Edits.{sets}
 use borrow.Rule.Slice.PartMut.{mid_len}
 use Rattle.meaning.specs.Below.{list_to}
 use Rattle.meaning.specs.Tokens.{token_at}
 use Rattle.meaning.proofs.Below.{length-list_to}
-use Rattle.norm_writer.proofs.Stored.{put-sets}
+use Rattle.token_norms.proofs.Stored.{put-sets}
 use Rattle.token_writer.proofs.LeafRun.{run-placed, run-postings}
-use Rattle.token_writer.specs.Writing.{PostingsPost}
+use Rattle.token_writer.specs.Writing.{WritePostingsPost}
 use Rattle.token_writer.proofs.postings.write_run.Goals.{After-write_postings-end}
 use Rattle.token_writer.proofs.postings.write_run.Goals as goal
 
 -- what is known once the postings are written
-done : (c : After-write_postings-end) → PostingsPost c.requires.0 c.args.records.tokens.now c.args.leaf c.args.positional c.args.at.token c.args.at.posting c.args.at.position c.args.postings.now c.write_postings-end.new.postings c.write_postings-end.result
+done : (c : After-write_postings-end) → WritePostingsPost c.requires.0 c.args.records.tokens.now c.args.leaf c.args.positional c.args.at.token c.args.at.posting c.args.at.position c.args.postings.now c.write_postings-end.new.postings c.write_postings-end.result
 done c = c.write_postings-end.ensures _ _ (run-postings _ _ _ _ _ _ _ _ _ _ c.requires.2)
 
 pub slice_bounds-copy_positions-count : goal.slice_bounds-copy_positions-count

@@ -1,8 +1,8 @@
--- `postings::write_runs` meets its contract. Assumes nothing.
+-- Each turn writes one leaf's run behind those of the leaves before it, and its place and number.
 use Rattle.std.proofs.Common.{ℕ, length, refl, arith}
 use Rattle.token_index.proofs.Order.{few-tokens, few-leaves}
 use Rattle.token_writer.proofs.LeafRuns.{field-there, filled-start, run_fits, filled_next, filled-end}
-use Rattle.token_writer.specs.Writing.{RunPre, RunPost, RunsPre}
+use Rattle.token_writer.specs.Writing.{WriteRunPre, WriteRunPost, RunsPre}
 use Rattle.token_writer.proofs.postings.write_runs.Goals.{After-is_positional-positional, After-write_run-end}
 use Rattle.token_writer.proofs.postings.write_runs.Goals as goal
 
@@ -18,11 +18,11 @@ overflow_cast-leaf c = omega (arith, c.loop-leaf-test.true, few-leaves _ _ _ _ c
 -- the leaf's run can be written
 fits : (c : After-is_positional-positional) (n : ℕ)
     → RunsPre n c.args.records.fields.now c.args.records.leaf_fields.now c.args.records.tokens.now (length c.args.postings.now) (length c.args.positions.now) (length c.args.runs.now)
-    → RunPre n (length c.args.records.leaf_fields.now) c.args.records.tokens.now c.loop-leaf.leaf c.is_positional-positional.result c.loop-leaf.at.token c.loop-leaf.at.posting c.loop-leaf.at.position (length c.loop-leaf.postings) (length c.loop-leaf.positions)
+    → WriteRunPre n (length c.args.records.leaf_fields.now) c.args.records.tokens.now c.loop-leaf.leaf c.is_positional-positional.result c.loop-leaf.at.token c.loop-leaf.at.posting c.loop-leaf.at.position (length c.loop-leaf.postings) (length c.loop-leaf.positions)
 fits c n pre = run_fits _ _ _ _ _ _ _ pre _ _ _ _ _ _ _ (c.loop-leaf.invariant n pre) c.loop-leaf-test.true _ c.is_positional-positional.ensures
 
 -- and has been
-ran : (c : After-write_run-end) → RunPost c.requires.0 c.args.records.tokens.now c.loop-leaf.leaf c.is_positional-positional.result c.loop-leaf.at.posting c.loop-leaf.at.position c.loop-leaf.postings c.loop-leaf.positions c.write_run-end.new.postings c.write_run-end.new.positions c.write_run-end.result
+ran : (c : After-write_run-end) → WriteRunPost c.requires.0 c.args.records.tokens.now c.loop-leaf.leaf c.is_positional-positional.result c.loop-leaf.at.posting c.loop-leaf.at.position c.loop-leaf.postings c.loop-leaf.positions c.write_run-end.new.postings c.write_run-end.new.positions c.write_run-end.result
 ran c = c.write_run-end.ensures _ _ (run_fits _ _ _ _ _ _ _ c.requires.1 _ _ _ _ _ _ _ (c.loop-leaf.invariant _ c.requires.1) c.loop-leaf-test.true _ c.is_positional-positional.ensures)
 
 pub write_run-end-requires : goal.write_run-end-requires

@@ -1,4 +1,4 @@
--- `TokenRecords::check` meets its contract: its tests are those of 15, in their order. Assumes nothing.
+-- Too many or broken token records, a leaf with an absent field and a wrong token are each refused with 15.
 use Rattle.meaning.specs.TokenRefusals.{wrong15}
 use Rattle.tokens.proofs.TokenRecords.check.Goals as goal
 

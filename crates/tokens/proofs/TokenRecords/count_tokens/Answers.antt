@@ -1,4 +1,4 @@
--- `TokenRecords::count_tokens` meets its contract. Assumes nothing.
+-- Each turn tests one token and counts it; the first wrong one ends the loop.
 use Rattle.std.proofs.Common.{◌≡◌, false, sym, ap, ◌∙◌, arith}
 use Rattle.meaning.specs.Tokens.{token_at, positional}
 use Rattle.meaning.proofs.Below.{any-zero, any-more, any_some, count-zero, count-le}

@@ -1,4 +1,4 @@
--- None of the tokens passed is wrong, and the numbers are theirs.
+-- None of the tokens passed is wrong, and the numbers are the postings and positions that they fill.
 use Rattle.std.proofs.Common.{◌≡◌, false}
 use Rattle.meaning.specs.Below.{any_below, count_below}
 use Rattle.meaning.specs.Tokens.{token_at, positional}

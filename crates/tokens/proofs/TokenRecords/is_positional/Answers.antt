@@ -1,4 +1,4 @@
--- `TokenRecords::is_positional` meets its contract. Assumes nothing.
+-- The leaf's field is there, so its record can be read.
 use borrow.Author.Tests.{leb-false}
 use Rattle.meaning.specs.TokenRefusals.{wrong_leaf_field}
 use Rattle.tokens.proofs.TokenRecords.is_positional.Goals as goal

@@ -1,4 +1,4 @@
--- `TokenRecords::wrong_leaf_fields` meets its contract. Assumes nothing.
+-- To look for an absent field among the leaves' fields is to look among the leaf numbers.
 use Rattle.std.proofs.Common.{◌≡◌, ℕ, ◌<◌, ◌≤◌, ◌/◌, Bool, true, false, List, length, MatchBool, sym, arith, rules, tests}
 use Rattle.std.specs.List.{HoldsAt, AllWithin}
 use Rattle.std.proofs.lemmas.Iterator.{cases_from_any, YieldsList-from_slice}

@@ -1,4 +1,4 @@
--- `TokenRecords::wrong_token` meets its contract. Assumes nothing.
+-- The first token has none before it to be compared with; any other must not be below the one before.
 use Rattle.std.proofs.Common.{arith}
 use Rattle.tokens.proofs.OneToken.{wrong_first, wrong-later}
 use Rattle.tokens.proofs.TokenRecords.wrong_token.Goals as goal

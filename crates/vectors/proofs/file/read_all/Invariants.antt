@@ -1,4 +1,4 @@
--- `read_all` meets its contract: what was read stands at the front. Its measure is the room that is left.
+-- No more was read than there is room for; each turn leaves less room.
 use Rattle.std.proofs.Common.{◌≤◌, length, ◌-◌}
 use Rattle.vectors.proofs.file.read_all.Given as goal
 

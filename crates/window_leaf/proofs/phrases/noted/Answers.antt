@@ -1,3 +1,4 @@
+-- A frequency of 1, 2, or 3 and more sets one plane's bit, the other's, or both.
 use Rattle.std.proofs.Common.{refl, arith}
 use Rattle.window_leaf.proofs.PlaneLaws.{noted-none, noted-one, noted-two, noted-more}
 use Rattle.window_leaf.proofs.phrases.noted.Goals as goal

@@ -1,3 +1,4 @@
+-- The terms leave the candidates; those with a frequency above 0 are where the phrase stands.
 use Rattle.std.proofs.Common.{refl, sym}
 use Rattle.window_leaf.proofs.PhraseNodes.{given-long, given-terms, given-asked-long, given-planes, given-put, given-answer}
 use Rattle.window_leaf.proofs.phrases.phrase_bits.Goals as goal
@@ -33,4 +34,4 @@ pub returns-clause-phrase_post : goal.returns-clause-phrase_post
 returns-clause-phrase_post c =
     let t = c.terms_bits-t in
     let p = c.planes_of-planes in
-    given-answer c.requires c.args.want t.result.bits t.result.next t.new.terms t.ensures p.result.ones p.result.twos c.either-w.result p.ensures.planes_post c.either-w.ensures _ _ _ _ refl refl refl refl c.put-2.new.st (rw (sym c.put.ensures) c.put-2.ensures)
+    given-answer c.requires c.args.want t.result.bits t.result.next t.new.terms t.ensures p.result.ones p.result.twos c.either-w.result p.ensures.planes_post c.either-w.ensures _ _ _ _ refl refl refl refl c.put-2.new.states (rw (sym c.put.ensures) c.put-2.ensures)

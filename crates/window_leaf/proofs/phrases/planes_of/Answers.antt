@@ -1,3 +1,4 @@
+-- Each turn notes one candidate's frequency, the lowest place first.
 use Rattle.std.proofs.Common.{rules}
 use Rattle.window_words.specs.Windowed.{places_of}
 use Rattle.window_leaf.proofs.PlaneLaws.{noting-start, noting-next, noting-end, left-among}

@@ -1,8 +1,9 @@
+-- The frequencies at the candidates passed are noted in the planes; those in `left` are still to come.
 use Rattle.std.proofs.Common.{◌≡◌, true, List, ℕ}
 use Rattle.meaning.specs.Lent.{Index}
 use Rattle.meaning.specs.Phrase.{PhraseTerm}
 use Rattle.bits.specs.Bit.{bit}
-use Rattle.leaf_scorer.specs.Buffers.{SameBuffers}
+use Rattle.scorer_leaf.specs.Buffers.{SameBuffers}
 use Rattle.window_words.specs.Windowed.{places_of}
 use Rattle.window_leaf.specs.Phrases.{PhraseAsked}
 use Rattle.window_leaf.proofs.PlaneLaws.{Noting}

@@ -1,12 +1,12 @@
--- A Boolean, or any node.
+-- At the root the sums are 0, so the children of a Boolean add to them directly; any other node adds its own score.
 use Rattle.std.proofs.Common.{refl, arith}
-use Rattle.node.specs.declared.NodeKind.TheVariants.{Boolean}
-use Rattle.node.proofs.Windows.{word-read}
+use Rattle.tree_node.specs.declared.NodeKind.TheVariants.{Boolean}
+use Rattle.tree_node.proofs.Windows.{word-read}
 use Rattle.window_score.proofs.Nodes.{node-long, constant-number, no-constant, root-as, root-done, root-deep, root-ask, root-part}
 use Rattle.window_score.proofs.root.root_scores.Goals as goal
 
-pub bounds-st-0 : goal.bounds-st-0
-bounds-st-0 c = omega (arith, node-long (root-as c.requires))
+pub bounds-states-0 : goal.bounds-states-0
+bounds-states-0 c = omega (arith, node-long (root-as c.requires))
 
 pub score_node_at-requires : goal.score_node_at-requires
 score_node_at-requires c = node-long (root-as c.requires)
@@ -33,4 +33,4 @@ pub returns-then-not-constant-clause-root_post : goal.returns-then-not-constant-
 returns-then-not-constant-clause-root_post c = root-part (no-constant c.score_node_at.ensures c.constant_score.result c.constant_score.ensures c.is_some-constant.result c.is_some-constant.ensures c.if-not-constant.true) (word-read _ Boolean c.in-Boolean.ensures refl) c.boolean_at-n.result c.boolean_at-n.ensures c.part_scores.new.kids c.part_scores.new.sums c.part_scores.ensures.root_parts_post
 
 pub returns-clause-root_post : goal.returns-clause-root_post
-returns-clause-root_post c = root-done c.requires c.node_scores.new.st c.node_scores.new.sums c.node_scores.ensures.scores_post
+returns-clause-root_post c = root-done c.requires c.node_scores.new.states c.node_scores.new.sums c.node_scores.ensures.scores_post

@@ -1,3 +1,4 @@
+-- Each wanted sum grows by the same score, and its bound with it.
 use Rattle.std.proofs.Common.{ℕ, rules}
 use Rattle.ieee754.proofs.Bounds.{atmost-number}
 use Rattle.window_score.specs.Sums.{Added}

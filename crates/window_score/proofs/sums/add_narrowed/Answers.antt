@@ -1,3 +1,4 @@
+-- Each wanted sum grows by the Boolean's own sum there, narrowed, and its bound with it.
 use Rattle.std.proofs.Common.{ℕ, get_or, rules, arith}
 use lib.Ieee.{nan}
 use Rattle.meaning.specs.Ieee754.{narrow}

@@ -1,3 +1,4 @@
+-- An f32 is an f64 as it is, so the two narrowed sums are added in binary64.
 use Rattle.std.proofs.Common.{sym, ap₂, ◌∙◌, subst, not}
 use lib.Dec.{T}
 use lib.Ieee.{Float, binary32, binary64, fits, is_nan, add}

@@ -1,3 +1,4 @@
+-- Each turn changes the sum at the lowest place that is left, and at no other.
 use Rattle.std.proofs.Common.{sym, subst}
 use lib.Ieee.{Float}
 use Rattle.window_score.specs.Sums.{uncalled, called}

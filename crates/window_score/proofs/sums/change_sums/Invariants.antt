@@ -1,3 +1,4 @@
+-- The places in `left` still have their sums, the other wanted ones what the function answered.
 use Rattle.window_score.proofs.Adding.{Changing}
 use Rattle.window_score.specs.Sums.{Reached, Answered}
 use Rattle.window_score.proofs.sums.change_sums.Given as goal

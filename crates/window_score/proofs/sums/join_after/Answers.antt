@@ -1,3 +1,4 @@
+-- Each wanted sum becomes the two narrowed sums, added.
 use Rattle.std.proofs.Common.{get_or, rules, arith}
 use lib.Ieee.{nan, binary64, add}
 use Rattle.meaning.specs.Ieee754.{narrow}

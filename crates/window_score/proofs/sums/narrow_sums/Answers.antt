@@ -1,3 +1,4 @@
+-- Each wanted sum is narrowed; an only child's is an f32 already and stays.
 use Rattle.std.proofs.Common.{refl, cond, rules, arith}
 use Rattle.meaning.specs.Ieee754.{narrow}
 use Rattle.window_score.specs.Sums.{At}

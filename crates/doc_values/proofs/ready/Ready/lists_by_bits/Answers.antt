@@ -1,3 +1,4 @@
+-- The interval has just the bits whose keys are let in, so no key has to be made.
 use Rattle.std.proofs.Common.{ap, ◌∙◌, Bool, ◌&&◌, ◌*◌, eqb, get_or, arith}
 use Rattle.column_keys.specs.Keys.{value_key, type_number}
 use Rattle.column_keys.proofs.KeyOrder.{value-tested}

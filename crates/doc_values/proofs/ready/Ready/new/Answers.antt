@@ -1,3 +1,4 @@
+-- A column that is there has N values of three words, and the keys made of a range let in what is in the range.
 use Rattle.std.proofs.Common.{◌<◌, ◌^◌, ◌+◌, ◌*◌, ap, subst, ◌∙◌, Option, arith, length-take, length-drop}
 use Rattle.meaning.specs.Lent.{column_type}
 use Rattle.meaning.specs.Entries.{columns_only}

@@ -1,3 +1,4 @@
+-- By keys or by bits, the same documents are let in; of at least 32 that are left the word has the first 32.
 use Rattle.std.proofs.Common.{◌≡◌, sym, ap, ◌∙◌, Bool, ◌&&◌, ℕ, ◌+◌, ◌-◌, ◌≤◌, ◌<◌, ltb, rules, arith, lt-ltb}
 use Rattle.doc_values.specs.Listed.{listed}
 use Rattle.doc_values.proofs.ready.Ready.next_word.Goals as goal

@@ -1,3 +1,4 @@
+-- Each turn lists its document behind the others if its value is let in, and leaves the output if not.
 use Rattle.std.proofs.Common.{refl, sym, ◌∙◌, arith}
 use Rattle.meaning.specs.Below.{list_below}
 use Rattle.meaning.proofs.Below.{list_length}

@@ -1,3 +1,4 @@
+-- Each turn writes the bits of 32 documents more and adds their number.
 use Rattle.std.proofs.Common.{ℕ, ◌+◌, ◌*◌, Bool, arith, sym, ◌∙◌}
 use Rattle.meaning.proofs.Below.{count-zero}
 use Rattle.doc_values.specs.Listed.{listed}

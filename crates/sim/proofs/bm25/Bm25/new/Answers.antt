@@ -1,4 +1,4 @@
--- `Bm25::new` meets its contract. Assumes nothing.
+-- Each turn fills in the inverse of one byte's length.
 use Rattle.std.proofs.Common.{◌≡◌, ℕ, ◌+◌, ◌<◌, List, length, get_or, set, sym, ◌∙◌, arith}
 use Rattle.std.proofs.lemmas.List.Edits.{fill_by_more}
 use lib.Ieee.{Float, nan}

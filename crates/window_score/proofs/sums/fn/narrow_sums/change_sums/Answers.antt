@@ -1,3 +1,4 @@
+-- A narrowed number is an f32, which is an f64 as it is.
 use Rattle.std.proofs.Common.{sym, subst, not}
 use lib.Dec.{T}
 use lib.Ieee.{Float, binary32, binary64, fits, is_nan}

@@ -1,2 +1,0 @@
--- What the check of picked lists shows.
-pub mod Checks

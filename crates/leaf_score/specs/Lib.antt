@@ -1,3 +1,0 @@
--- What the contracts of this crate name beside the definitions of `meaning` and `weight`.
-pub mod Words
-pub mod Asked

@@ -1,2 +1,0 @@
--- The plain mathematics of this program's proofs.
-pub mod Standings

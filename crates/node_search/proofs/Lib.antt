@@ -1,2 +1,0 @@
--- The plain mathematics of this crate's proofs.
-pub mod Words

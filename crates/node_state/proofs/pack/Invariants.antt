@@ -1,7 +1,0 @@
--- After i turns the records are those that the first i turns take from the words.
-use Rattle.std.proofs.Common.{◌≡◌}
-use Rattle.node_state.proofs.Turns.{take_nodes}
-use Rattle.node_state.proofs.pack.Given as goal
-
-abbrev pub invariant-loop-i : goal.invariant-loop-i
-invariant-loop-i l = l.nodes ≡ take_nodes l.words l.i l.initial.nodes

@@ -1,8 +1,0 @@
--- A node's record as the code has it. Assumes nothing: these are definitions.
-use Rattle.weight.specs.State.{State}
-use Rattle.node_words.specs.declared.state.NodeState.{NodeState}
-
--- a record as the layout of the words has it
-abbrev pub state_of : NodeState → State
-state_of s =
-    record { kind = s.kind; size = s.size; cached = s.cached; need = s.need; required_end = s.required_end; optional_end = s.optional_end; first = s.first; number = s.number; cursor = s.cursor; offset = s.offset; field = s.field; constant = s.constant; weight = s.weight; afterwards = s.afterwards; group_at = s.group_at; scores = s.scores; frequency_of = s.frequency_of; frequency = s.frequency; norms = s.norms; window_first = s.window_first; window_low = s.window_low; window_high = s.window_high; window_next = s.window_next; ones_low = s.ones_low; ones_high = s.ones_high; twos_low = s.twos_low; twos_high = s.twos_high; spare1 = s.spare1; spare2 = s.spare2; spare3 = s.spare3; spare4 = s.spare4; spare5 = s.spare5 }

@@ -1,7 +1,0 @@
--- The runs of the field's leaves before l are added.
-use Rattle.std.proofs.Common.{length}
-use Rattle.norm_writer.proofs.Leaves.{Added}
-use Rattle.norm_writer.proofs.FieldRuns.add_leaves.Given as goal
-
-abbrev pub invariant-loop-l : goal.invariant-loop-l
-invariant-loop-l l = Added l.self.leaf_fields.now l.self.postings.now l.self.runs.now l.self.field l.base (length l.initial.counts) l.l l.cursors l.counts

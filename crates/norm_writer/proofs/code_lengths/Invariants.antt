@@ -1,7 +1,0 @@
--- The bytes so far are those of the lengths.
-use Rattle.std.proofs.Common.{◌≡◌, ℕ, ◌<◌, get_or}
-use Rattle.meaning.specs.SmallFloat.{int_to_byte4}
-use Rattle.norm_writer.proofs.code_lengths.Given as goal
-
-abbrev pub invariant-loop-j : goal.invariant-loop-j
-invariant-loop-j l = (k : ℕ) → k < l.j → get_or l.norms k 0 ≡ int_to_byte4 (get_or l.lengths k 0)

@@ -1,2 +1,0 @@
--- What Search, Page and Place are lent.
-pub mod Lends

@@ -1,2 +1,0 @@
--- What the checks of a phrase show.
-pub mod Checks

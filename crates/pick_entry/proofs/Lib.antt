@@ -1,2 +1,0 @@
--- The laws of the Pick entry.
-pub mod PickEntry

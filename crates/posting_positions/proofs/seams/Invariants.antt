@@ -1,7 +1,0 @@
-use Rattle.std.proofs.Common.{◌≡◌}
-use Rattle.meaning.specs.Below.{count_below}
-use Rattle.posting_positions.specs.Places.{seam_at}
-use Rattle.posting_positions.proofs.seams.Given as goal
-
-abbrev pub invariant-loop-i : goal.invariant-loop-i
-invariant-loop-i l = l.falls ≡ count_below l.i (seam_at l.run l.positions)

@@ -1,5 +1,0 @@
-use Rattle.posting_rows.specs.Rows.{Over}
-use Rattle.posting_rows.proofs.head.Given as goal
-
-abbrev pub invariant-loop-i : goal.invariant-loop-i
-invariant-loop-i l = Over l.run l.i l.t

@@ -1,2 +1,0 @@
--- The laws of the Range entry.
-pub mod RangeEntry

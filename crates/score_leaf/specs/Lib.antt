@@ -1,0 +1,3 @@
+-- What the contracts of this crate name beside the definitions of `meaning` and `tree_weight`.
+pub mod Words
+pub mod Asked

@@ -1,0 +1,3 @@
+-- The plain mathematics of this crate's proofs.
+pub mod SearchOnRecords
+pub mod PageOnRecords

@@ -1,0 +1,2 @@
+-- A range that the program asks is not refused.
+pub mod Asked

@@ -1,0 +1,111 @@
+// What the programs of node records share: document 01's whole case, and a record of rubbish.
+#![tactic(auto)]
+
+use index::lent::Lent;
+use tree_records::NodeState;
+use vectors::lists::EMPTY;
+
+// One field; leaf 0 in the documents 0, 2 and 3, leaf 1 in 2.
+pub const WHOLE_CASE: Lent<'static> = Lent {
+    max_doc: 4,
+    fields: &[0x3f80_0000, 0, 0],
+    leaves: &[0, 0, 3, 0x3f80_0000, 0, 3, 1, 0x3f80_0000],
+    postings: &[0, 1, 0, 2, 1, 0, 3, 1, 0, 2, 1, 0],
+    ..EMPTY
+};
+
+// Boolean of Must ConstantScore(leaf 0) and Should Boost 2 of ConstantScore(leaf 1).
+pub const QUERY: [u32; 54] = [
+    3,
+    0,
+    2,
+    0,
+    0,
+    0,
+    0,
+    0,
+    0,
+    6,
+    1,
+    1,
+    0,
+    0,
+    0,
+    0,
+    0,
+    0,
+    1,
+    0,
+    0,
+    0,
+    0,
+    0,
+    0,
+    0,
+    0,
+    7,
+    2,
+    1,
+    0x4000_0000,
+    0,
+    0,
+    0,
+    0,
+    0,
+    6,
+    0,
+    1,
+    0,
+    0,
+    0,
+    0,
+    0,
+    0,
+    1,
+    0,
+    0,
+    1,
+    0,
+    0,
+    0,
+    0,
+    0,
+];
+
+// Lent in the records before a call.
+pub const RUBBISH: NodeState = NodeState {
+    kind: WORD,
+    size: WORD,
+    cached: WORD,
+    need: WORD,
+    required_end: WORD,
+    optional_end: WORD,
+    first: WORD,
+    number: WORD,
+    cursor: WORD,
+    offset: WORD,
+    field: WORD,
+    constant: WORD,
+    weight: WORD,
+    afterwards: WORD,
+    group_at: WORD,
+    scores: WORD,
+    frequency_of: WORD,
+    frequency: WORD,
+    norms: WORD,
+    window_first: WORD,
+    window_low: WORD,
+    window_high: WORD,
+    window_next: WORD,
+    ones_low: WORD,
+    ones_high: WORD,
+    twos_low: WORD,
+    twos_high: WORD,
+    spare1: WORD,
+    spare2: WORD,
+    spare3: WORD,
+    spare4: WORD,
+    spare5: WORD,
+};
+
+const WORD: u32 = 0xfeed_face;
