@@ -4,6 +4,8 @@
 
 mod report;
 
+ghost use Rattle.std.specs.Prelude.{◌≤◌, length};
+
 use hits_text::files::{Contents, MAX_BYTES};
 use std::fs;
 use std::io::Write;
@@ -16,7 +18,9 @@ const ROOM: usize = MAX_BYTES + 1;
 // What was read of the file. One that is missing or unreadable counts as one that fills the buffer: both are refused.
 // Kept: no plainer as an Option: document 01 refuses a missing file as it does a longer one, and `taken` tests the
 // length alone.
-fn read_file<'a>(rt: &impl Files, name: &str, bytes: &'a mut [u8]) -> &'a [u8] {
+fn read_file<'a>(rt: &impl Files, name: &str, bytes: &'a mut [u8]) -> &'a [u8]
+    ensures { length result.now ≤ length bytes.old }
+{
     let number = match fs::open(rt, name) {
         Ok(mut file) => read_all(&mut file, bytes).unwrap_or(bytes.len()),
         Err(_) => bytes.len(),

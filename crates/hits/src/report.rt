@@ -7,7 +7,7 @@ ghost use Rattle.hits_text.specs.Contents.{files_of};
 use arrayvec::ArrayVec;
 use hits_text::files::{Contents, MAX_BYTES, taken};
 use hits_text::hit::{found, refused};
-use hits_text::words::{read_longs, read_words, word_at};
+use hits_text::words::{file_longs, file_words, word_at};
 use index::lent::Lent;
 use query::MAX_RECORDS;
 use searcher::buffers::Buffers;
@@ -61,16 +61,16 @@ pub fn report(files: Contents) -> Text
     let mut query = [0u32; MAX_WORDS];
     let index = Lent {
         max_doc: word_at(files.run, 0),
-        fields: read_words(files.fields, &mut fields),
-        leaves: read_words(files.leaves, &mut leaves),
-        postings: read_words(files.postings, &mut postings),
-        positions: read_words(files.positions, &mut positions),
+        fields: file_words(files.fields, &mut fields),
+        leaves: file_words(files.leaves, &mut leaves),
+        postings: file_words(files.postings, &mut postings),
+        positions: file_words(files.positions, &mut positions),
         norms: files.norms,
-        live: read_longs(files.live, &mut live),
-        columns: read_words(files.columns, &mut columns),
-        values: read_words(files.values, &mut values),
+        live: file_longs(files.live, &mut live),
+        columns: file_words(files.columns, &mut columns),
+        values: file_words(files.values, &mut values),
     };
     let k = word_at(files.run, 1);
     let t = word_at(files.run, 2);
-    answer(index, read_words(files.query, &mut query), k, t)
+    answer(index, file_words(files.query, &mut query), k, t)
 }

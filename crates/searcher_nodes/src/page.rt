@@ -17,7 +17,16 @@ use tree_records::NodeState;
 use tree_weight::NODE_STATE_WORDS;
 use walk::Listed;
 
-// An accepted call leaves the order's tree in the records, at the next match; a refused one leaves them as they were.
+// The words of the records that a call can need.
+fn words_of(buffers: &Buffers<'_, NodeState>) -> [u32; MAX_RECORDS * NODE_STATE_WORDS]
+    ensures { take (node_state_words * held (length buffers.now.states.now)) result
+        ≡ record_words (take (held (length buffers.now.states.now)) buffers.now.states.now) }
+{
+    tree_records::unpacked(buffers.states)
+}
+
+// An accepted call leaves the order's tree in the records, at the next match, and those behind it as they were; a
+// refused one leaves all as they were.
 pub fn page_nodes(
     lent: &Lent,
     query: &[u32],
@@ -30,20 +39,12 @@ pub fn page_nodes(
         (record_words buffers.new.states.now) buffers.old buffers.new
         documents.old documents.new scores.old scores.new result }
 {
-    let mut words = tree_records::zeros();
+    let mut record_words = words_of(buffers);
     over_records(
-        &mut words,
+        &mut record_words,
         buffers,
         &mut |words: &mut Buffers<'_>| page(lent, query, target, words, documents, scores),
     )
-}
-
-// The words of the records that a call can need.
-fn words_of(buffers: &Buffers<'_, NodeState>) -> [u32; MAX_RECORDS * NODE_STATE_WORDS]
-    ensures { take (node_state_words * held (length buffers.now.states.now)) result
-        ≡ record_words (take (held (length buffers.now.states.now)) buffers.now.states.now) }
-{
-    tree_records::unpacked(buffers.states)
 }
 
 // The same where the order's tree stands in the records: the walk goes on from them, and nothing is built.

@@ -154,8 +154,11 @@ impl TokenRecords<'_> {
         if (self.tokens.len() % TOKEN_WORDS != 0)
             | (token_count(self.tokens) > MAX_TOKENS)
             | (self.leaf_fields.len() > MAX_LEAVES)
-            | self.wrong_leaf_fields()
         {
+            return Err(Refusal::Tokens);
+        }
+        // apart from the lengths, so that a list that is too long is not walked
+        if self.wrong_leaf_fields() {
             return Err(Refusal::Tokens);
         }
         self.count_tokens()

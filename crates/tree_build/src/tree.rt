@@ -80,7 +80,8 @@ fn place_required(
 {
     let group = group_cost(records.query, records.measures, at);
     let mut buffer = [0; 64];
-    let list = required_clauses(records.query, records.measures, at, &mut buffer);
+    let count = required_clauses(records.query, records.measures, at, &mut buffer);
+    let list = &buffer[..count];
     let before = no_dearer(records.measures, list, group);
     let group_at = place_list(states, records, &list[..before], boost, depth);
     let rest = place_list(
@@ -112,14 +113,14 @@ fn place_others(
     ensures states_len_unchanged { length states.new ≡ length states.old }
 {
     let mut buffer = [0; 64];
-    let list = clauses_of(
+    let count = clauses_of(
         records.query,
         records.measures,
         at,
         Some(occurrence),
         &mut buffer,
     );
-    place_list(states, records, list, boost, depth)
+    place_list(states, records, &buffer[..count], boost, depth)
 }
 
 // Writes the record of a Boolean whose part has `size` words.

@@ -1,5 +1,5 @@
 // A file of little-endian words: the words, and the lists that a place in it names.
-ghost use Rattle.std.specs.Prelude.{◌≡◌, ◌<◌, ◌≤◌, length, take, get_or, IfOk, MatchResult};
+ghost use Rattle.std.specs.Prelude.{◌+◌, ◌≡◌, ◌<◌, ◌≤◌, length, take, get_or, IfOk, MatchResult};
 
 use std::io::Read;
 use std::rt::Files;
@@ -39,6 +39,14 @@ pub fn read_all(file: &mut impl Read, bytes: &mut [u8]) -> Result<usize, usize>
     Ok(done)
 }
 
+// Little-endian words, as many as both slices have room for.
+pub fn read_words(bytes: &[u8], words: &mut [u32]) {
+    let (chunks, _) = bytes.as_chunks::<4>();
+    for (word, chunk) in words.iter_mut().zip(chunks) {
+        *word = u32::from_le_bytes(*chunk);
+    }
+}
+
 // `number` items of a list from `first` on; none where they do not lie within it.
 fn part<T>(list: &[T], first: u32, number: u32) -> &[T] {
     let begin = first as usize;
@@ -61,6 +69,16 @@ pub fn records<const N: usize>(file: &[u32]) -> &[[u32; N]]
     };
     let (records, _) = words.as_chunks::<N>();
     first(records, *number as usize)
+}
+
+// The i-th word from a place on, 0 where the file has ended.
+pub fn word(file: &[u32], at: usize, i: usize) -> u32
+    ensures { result ≡ get_or file.now (at + i) 0 }
+{
+    match file.get(at..) {
+        Some(rest) => rest.get(i).copied().unwrap_or(0),
+        None => 0,
+    }
 }
 
 // The bytes that stand at `place`, their first word + 65,536 × their number; none where they aren't within the file.

@@ -157,24 +157,27 @@ struct Lists {
 }
 
 impl Lists {
-    // Documents, each above the one before by 1 to 3.
-    fn documents(self, seed: u64) -> [u32; DOCUMENTS]
+    // So many documents, each above the one before by 1 to 3, and zeros after them.
+    fn documents(self, n: usize, seed: u64) -> [u32; DOCUMENTS]
+        requires { n ≤ DOCUMENTS }
         ensures { DOCUMENTS ≡ length result }
     {
         let mut documents = [0u32; DOCUMENTS];
         let mut document = self.base;
-        for (place, x) in documents.iter_mut().zip(Sequence(seed)) {
+        for (place, x) in documents[..n].iter_mut().zip(Sequence(seed)) {
             *place = document;
             document = document.wrapping_add(1 + below(x, 3));
         }
         documents
     }
 
-    fn scores(self, seed: u64) -> [u32; DOCUMENTS]
+    // So many scores, and zeros after them.
+    fn scores(self, n: usize, seed: u64) -> [u32; DOCUMENTS]
+        requires { n ≤ DOCUMENTS }
         ensures { DOCUMENTS ≡ length result }
     {
         let mut scores = [0u32; DOCUMENTS];
-        for ((i, place), x) in scores.iter_mut().enumerate().zip(Sequence(seed)) {
+        for ((i, place), x) in scores[..n].iter_mut().enumerate().zip(Sequence(seed)) {
             *place = self.order.score(i, x);
         }
         scores
@@ -185,8 +188,8 @@ impl Lists {
         requires n_bound { n ≤ DOCUMENTS }
         requires k_nonzero { (0 < k) × (k ≤ HITS) }
     {
-        let documents = self.documents(seed);
-        let scores = self.scores(seed ^ 0x5555_5555_5555_5555);
+        let documents = self.documents(n, seed);
+        let scores = self.scores(n, seed ^ 0x5555_5555_5555_5555);
         pick(out, &documents[..n], &scores[..n], k, t)
     }
 

@@ -5,12 +5,11 @@
 // are made here.
 #![tactic(auto)]
 
-use hits_text::words::read_words;
 use index::lent::Lent;
 use refusal::Refusal;
 use std::io;
 use std::io::Write;
-use vectors::file::{first, list, read_bytes, records};
+use vectors::file::{first, list, read_bytes, read_words, records};
 
 // Checks a case's index, then its query; its norm bytes and live words are the first of the given ones.
 fn check(file: &[u32], norms: &[u8], live: &[u64], case: [u32; 10]) -> Result<(), Refusal> {
@@ -41,10 +40,11 @@ fn check(file: &[u32], norms: &[u8], live: &[u64], case: [u32; 10]) -> Result<()
     check_query::check_query(&lent, list(file, query))
 }
 
-fn print_refusals(out: &mut impl Write, file: &[u32]) -> io::Result<()> {
+fn print_refusals(out: &mut impl Write, file: &[u32; 65_536]) -> io::Result<()> {
     let norms = [255u8; 65_553];
     let live = [0xffff_ffff_ffff_ffffu64; 16_385];
-    for case in records::<10>(file) {
+    // all but the last that the file has room for
+    for case in first(records::<10>(file), file.len() / 10 - 1) {
         match check(file, &norms, &live, *case) {
             Ok(()) => writeln!(out, "0")?,
             Err(refusal) => writeln!(out, "{refusal}")?,
@@ -58,7 +58,7 @@ fn main(rt: HostRuntime) -> io::Result<()> {
     let mut bytes = [0u8; 262_144];
     let mut file = [0u32; 65_536];
     let n = read_bytes(&rt, "cases.rec", &mut bytes)?;
-    let file = read_words(&bytes[..n], &mut file);
-    print_refusals(&mut out, file)?;
+    read_words(&bytes[..n], &mut file);
+    print_refusals(&mut out, &file)?;
     out.flush()
 }

@@ -5,14 +5,13 @@
 #![tactic(auto)]
 
 use collector::TopDocs;
-use hits_text::words::read_words;
 use index::lent::Lent;
 use searcher::buffers::Buffers;
 use std::io;
 use std::io::Write;
 use std::rt::Files;
 use tree_weight::NODE_STATE_WORDS;
-use vectors::file::{bytes_at, first, list, read_bytes, read_long_words, records};
+use vectors::file::{bytes_at, first, list, read_bytes, read_long_words, read_words, word};
 use vectors::print::{Hits, Page};
 use walk::Listed;
 
@@ -124,9 +123,10 @@ fn print_file(out: &mut impl Write, rt: &(impl Files + Eprint), path: &str) -> i
     let mut bytes = [0u8; 65_536];
     let mut file = [0u32; 16_384];
     read_bytes(rt, path, &mut bytes)?;
-    let file = read_words(&bytes, &mut file);
-    for case in records::<14>(file) {
-        print_case(out, file, &bytes, *case)?;
+    read_words(&bytes, &mut file);
+    for i in 0..file[0] as usize {
+        let case = std::array::from_fn(|k| word(&file, 1 + 14 * i, k));
+        print_case(out, &file, &bytes, case)?;
     }
     Ok(())
 }

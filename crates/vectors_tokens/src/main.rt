@@ -4,11 +4,10 @@
 // leaf fields stand; then the lists' words.
 #![tactic(auto)]
 
-use hits_text::words::read_words;
 use std::io;
 use std::io::Write;
 use tokens::TokenRecords;
-use vectors::file::{list, read_bytes, records};
+use vectors::file::{list, read_bytes, read_words, word};
 use vectors::print::List;
 
 // So many elements of each output there is room for.
@@ -72,9 +71,10 @@ fn print_row(out: &mut impl Write, file: &[u32], row: [u32; 8]) -> io::Result<()
     )
 }
 
-fn print_rows(out: &mut impl Write, file: &[u32]) -> io::Result<()> {
-    for row in records::<8>(file) {
-        print_row(out, file, *row)?;
+fn print_rows(out: &mut impl Write, file: &[u32; 16_384]) -> io::Result<()> {
+    for i in 0..file[0] as usize {
+        let row = std::array::from_fn(|k| word(file, 1 + 8 * i, k));
+        print_row(out, file, row)?;
     }
     Ok(())
 }
@@ -84,7 +84,7 @@ fn main(rt: HostRuntime) -> io::Result<()> {
     let mut bytes = [0u8; 65_536];
     let mut file = [0u32; 16_384];
     let n = read_bytes(&rt, "rows.rec", &mut bytes)?;
-    let file = read_words(&bytes[..n], &mut file);
-    print_rows(&mut out, file)?;
+    read_words(&bytes[..n], &mut file);
+    print_rows(&mut out, &file)?;
     out.flush()
 }

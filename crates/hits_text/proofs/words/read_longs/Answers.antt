@@ -2,6 +2,7 @@
 use Rattle.std.proofs.Common.{sym, ap, ◌∙◌, ℕ, List, [], ◌/◌, length, w64, arith}
 use Rattle.std.specs.Int.{from_le_bytes}
 use lib.ListN.{get_or}
+use lib.Seq.{length-take-le}
 use Rattle.meaning.proofs.Below.{list_to-zero}
 use Rattle.hits_text.specs.Text.{long_at, longs_of}
 use Rattle.hits_text.proofs.Filling.{filled_more, filled-all, chunk-long}
@@ -18,6 +19,9 @@ loop-i-preserved c =
     filled_more l.words l.i c.from_le_bytes.result (long_at bytes) (omega arith) l.invariant
     (c.from_le_bytes.ensures ∙ ap (λ (chunks : List (List ℕ)). from_le_bytes w64 (get_or chunks l.i [])) c.as_chunks.ensures.front ∙ chunk-long bytes n l.i (omega arith))
 
-pub returns : goal.returns
+pub returns-clause-prefix_len : goal.returns-clause-prefix_len
+returns-clause-prefix_len c = (omega arith, sym (length-take-le _ c.loop-i.words (omega arith)))
+
+pub returns-clause-words_after : goal.returns-clause-words_after
 unfolding longs_of
-returns c = filled-all c.loop-i.words _ _ _ (long_at c.args.bytes.now) c.loop-i.invariant (omega arith) c.as_chunks.ensures.front_len
+returns-clause-words_after c = filled-all c.loop-i.words _ _ _ (long_at c.args.bytes.now) c.loop-i.invariant (omega arith) c.as_chunks.ensures.front_len

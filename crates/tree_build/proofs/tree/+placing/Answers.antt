@@ -1,6 +1,6 @@
 -- A tree is placed by its kind: a Boolean's record, then its required clauses, then the others, each list in turn.
 use borrow.Rule.Slice.PartMut.{mid_len, post_of}
-use Rattle.std.proofs.Common.{◌≡◌, ◌≤◌, ◌<◌, Bool, List, cond, ℕ, ◌+◌, ◌-◌, refl, ◌∙◌, ap, length, arith, rules}
+use Rattle.std.proofs.Common.{◌≡◌, ◌≤◌, ◌<◌, Bool, List, cond, ℕ, ◌+◌, ◌-◌, refl, ◌∙◌, ap, length, take, arith, rules}
 use Rattle.meaning.specs.Limits.{node_state_words}
 use Rattle.meaning.specs.Query.{is_must}
 use Rattle.query.specs.Kinds.{kind_number, occur_number}
@@ -254,46 +254,46 @@ place_list-loop-at-preserved t c =
 pub place_list-returns-clause-list_post : goal.place_list-returns-clause-list_post
 place_list-returns-clause-list_post t c = list-ends c.args.list.now c.args.boost c.requires c.loop-at.invariant (omega arith)
 
-pub place_others-clauses_of-list-requires : goal.place_others-clauses_of-list-requires
-place_others-clauses_of-list-requires t c =
+pub place_others-clauses_of-count-requires : goal.place_others-clauses_of-count-requires
+place_others-clauses_of-count-requires t c =
     others-known (occur_number c.args.occurrence) c.requires (found c.args.records.now)
 
 pub place_others-place_list-requires : goal.place_others-place_list-requires
 place_others-place_list-requires t c =
-    (omega (arith, c.decreases), others-listed (occur_number c.args.occurrence) c.requires (found c.args.records.now) c.clauses_of-list.result.now (c.clauses_of-list.ensures.readies_at _ refl))
+    (omega (arith, c.decreases), others-listed (occur_number c.args.occurrence) c.requires (found c.args.records.now) (take c.clauses_of-count.result c.clauses_of-count.new.list) (c.clauses_of-count.ensures.readies_at _ refl))
 
 pub place_others-returns-clause-others_post : goal.place_others-returns-clause-others_post
 place_others-returns-clause-others_post t c =
-    others-placed (occur_number c.args.occurrence) c.requires (found c.args.records.now) c.clauses_of-list.result.now (c.clauses_of-list.ensures.readies_at _ refl) c.place_list.ensures.list_post
+    others-placed (occur_number c.args.occurrence) c.requires (found c.args.records.now) (take c.clauses_of-count.result c.clauses_of-count.new.list) (c.clauses_of-count.ensures.readies_at _ refl) c.place_list.ensures.list_post
 
 pub place_required-group_cost-group-requires : goal.place_required-group_cost-group-requires
 place_required-group_cost-group-requires t c =
     required-known c.requires (found c.args.records.now)
 
-pub place_required-required_clauses-list-requires : goal.place_required-required_clauses-list-requires
-place_required-required_clauses-list-requires t c =
+pub place_required-required_clauses-count-requires : goal.place_required-required_clauses-count-requires
+place_required-required_clauses-count-requires t c =
     required-known c.requires (found c.args.records.now)
 
 pub place_required-no_dearer-before-requires : goal.place_required-no_dearer-before-requires
 place_required-no_dearer-before-requires t c =
-    let o = c.required_clauses-list in
-    let list = o.result.now in
-    required-here c.requires (found c.args.records.now) c.required_clauses-list.result.now c.required_clauses-list.ensures.readies_at
+    let o = c.required_clauses-count in
+    required-here c.requires (found c.args.records.now) (take o.result o.new.list) o.ensures.readies_at
 
 pub place_required-place_list-group_at-requires : goal.place_required-place_list-group_at-requires
 place_required-place_list-group_at-requires t c =
-    let o = c.required_clauses-list in
-    let list = o.result.now in
+    let o = c.required_clauses-count in
+    let list = take o.result o.new.list in
     let n = c.no_dearer-before.result in
-    (omega (arith, c.decreases), required-first c.requires (found c.args.records.now) o.result.now o.ensures.readies_at n refl)
+    (omega (arith, c.decreases), required-first c.requires (found c.args.records.now) list o.ensures.readies_at n refl)
 
 -- the part before the group is within the words
 before : (t : _) (c : goal.place_required-After-place_list-group_at t) → c.place_list-group_at.result ≤ length c.place_list-group_at.new.states
 before t c =
-    let list = c.required_clauses-list.result.now in
+    let o = c.required_clauses-count in
+    let list = take o.result o.new.list in
     let n = c.no_dearer-before.result in
     let p = c.place_list-group_at in
-    required-within c.requires (found c.args.records.now) c.required_clauses-list.result.now c.required_clauses-list.ensures.readies_at n refl p.auto.states p.ensures.list_post
+    required-within c.requires (found c.args.records.now) list o.ensures.readies_at n refl p.auto.states p.ensures.list_post
 
 pub place_required-offset_bounds-states-group_at : goal.place_required-offset_bounds-states-group_at
 place_required-offset_bounds-states-group_at t c = omega (arith, before t (goal.at.place_required-offset_bounds-states-group_at t c).After-place_list-group_at, c.place_list-group_at.auto.states, c.well_formed)
@@ -306,28 +306,28 @@ place_required-slice_bounds-place_list-start t c = before t (goal.at.place_requi
 
 pub place_required-place_list-rest-requires : goal.place_required-place_list-rest-requires
 place_required-place_list-rest-requires t c =
-    let o = c.required_clauses-list in
-    let list = o.result.now in
+    let o = c.required_clauses-count in
+    let list = take o.result o.new.list in
     let n = c.no_dearer-before.result in
     let p = c.place_list-group_at in
     let part = mid_len p.result (length p.new.states) p.new.states (omega arith) in
-    (omega (arith, c.decreases), required-second c.requires (found c.args.records.now) o.result.now o.ensures.readies_at n refl p.auto.states p.ensures.list_post (from-there list n) part)
+    (omega (arith, c.decreases), required-second c.requires (found c.args.records.now) list o.ensures.readies_at n refl p.auto.states p.ensures.list_post (from-there list n) part)
 
 pub place_required-overflow_add-result : goal.place_required-overflow_add-result
 place_required-overflow_add-result t c =
-    let o = c.required_clauses-list in
-    let list = o.result.now in
+    let o = c.required_clauses-count in
+    let list = take o.result o.new.list in
     let n = c.no_dearer-before.result in
     let p = c.place_list-group_at in
     let part = mid_len p.result (length p.new.states) p.new.states (omega arith) in
-    let fits = required-fits c.requires (found c.args.records.now) o.result.now o.ensures.readies_at n refl p.auto.states p.ensures.list_post (from-there list n) part c.place_list-rest.ensures.list_post c.place_list-rest.auto.states in
+    let fits = required-fits c.requires (found c.args.records.now) list o.ensures.readies_at n refl p.auto.states p.ensures.list_post (from-there list n) part c.place_list-rest.ensures.list_post c.place_list-rest.auto.states in
     omega (arith, fits, p.auto.states, c.well_formed)
 
 pub place_required-returns-clause-required_post : goal.place_required-returns-clause-required_post
 place_required-returns-clause-required_post t c =
-    let o = c.required_clauses-list in
-    let list = o.result.now in
+    let o = c.required_clauses-count in
+    let list = take o.result o.new.list in
     let n = c.no_dearer-before.result in
     let p = c.place_list-group_at in
     let part = mid_len p.result (length p.new.states) p.new.states (omega arith) in
-    required-placed c.requires (found c.args.records.now) o.result.now o.ensures.readies_at n refl p.auto.states p.ensures.list_post (from-there list n) part c.place_list-rest.ensures.list_post c.group_cost-group.result c.group_cost-group.ensures c.no_dearer-before.ensures.0 (post_of p.result (length p.new.states - p.result) p.new.states)
+    required-placed c.requires (found c.args.records.now) list o.ensures.readies_at n refl p.auto.states p.ensures.list_post (from-there list n) part c.place_list-rest.ensures.list_post c.group_cost-group.result c.group_cost-group.ensures c.no_dearer-before.ensures.0 (post_of p.result (length p.new.states - p.result) p.new.states)
